@@ -1,0 +1,1 @@
+// No code: general facts about lists and numbers that the kit lacks. They stand in specs/.

@@ -1,0 +1,2 @@
+pub mod Safe
+pub mod Needs
