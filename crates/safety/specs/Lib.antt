@@ -1,2 +1,4 @@
 pub mod Safe
 pub mod Needs
+pub mod Found
+pub mod Fits
