@@ -1,3 +1,4 @@
 pub mod Course
-pub mod UpTo
 pub mod Elems
+pub mod Lists
+pub mod UpTo
