@@ -6,3 +6,15 @@ pub mod Progress
 pub mod Keeps
 pub mod Published
 pub mod LinksNeeded
+pub mod Focus
+pub mod Plug
+pub mod ReachesStep
+pub mod Reaches
+pub mod Ends
+pub mod AtomsInside
+pub mod Atoms
+pub mod AtomsNodes
+pub mod Rooms
+pub mod RoomsRuns
+pub mod Preserved
+pub mod ReachesMoments
