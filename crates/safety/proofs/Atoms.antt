@@ -187,10 +187,9 @@ module _ {S E : Type 0} (m : Machine S E) where
       → EntersBlock m s t i n ch
       → (s₁ : S) (o₁ : Option Control)
       → step m s t i ≡ goesTo s₁ o₁
-      → (cs : List ℕ) (s′ : S) (o′ : Option Control) (r : Reaches m s′ o′ cs s₁ o₁)
-      → Sealed m t i n ch cs s₁ s′ o′ (moved m r)
+      → Sealed m t i n ch s₁ o₁
   unfolding step follow left
-  only-that-block-moves s t i n ch h x s₁ o₁ e cs s′ o′ r =
+  only-that-block-moves s t i n ch h x s₁ o₁ e =
       let p : Picks t i = picks s t i (x .effect) (Enters n ch) (x .plans) in
       let f : Focus (m .cmdAt) t (p .node) (p .chain) (put (m .cmdAt) t i) =
       focus (m .cmdAt) t i (p .node) (p .chain) h (p .is) in
@@ -206,5 +205,6 @@ module _ {S E : Type 0} (m : Machine S E) where
         chain = p .chain;
         picks = p .is;
         stood = f .is;
-        only = atom-run (f .around) (f .quiet) s′ o′ cs s₁ o₁ r u w;
+        stands = w;
+        only = λ cs s′ o′ r. atom-run (f .around) (f .quiet) s′ o′ cs s₁ o₁ r u w;
       }

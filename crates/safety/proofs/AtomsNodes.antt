@@ -4,7 +4,6 @@ use Prim.Native.Nat.{ℕ}
 use mathlib.Core.Path.{_≡_, refl, sym, ap, _∙_}
 use mathlib.Core.Bool.{Bool, true, false}
 use mathlib.Core.Option.{Option, some}
-use mathlib.Core.List.{List}
 use lib.ListN.{getElem?}
 use Rattle.rules.specs.Syntax.{Cmd, noCmd, var, call, malloc, assign, assignField, skip, seq, while, if, par, atom, cmdNo}
 use Rattle.rules.specs.declared.Chain.{Chain}
@@ -17,8 +16,7 @@ use Rattle.rules.specs.Eval.{Script, Procedure, formal, Res, ok, fault, stuck, 
 use Rattle.rules.specs.Control.{Control, move, movable}
 use Rattle.rules.specs.Step.{does, goesTo, step, Deed, deed, enter, either, calling, exec, miniOO}
 use Rattle.safety.specs.Safe.{Nested}
-use Rattle.safety.specs.Reaches.{Reaches}
-use Rattle.safety.specs.Atoms.{moved, EntersBlock, Sealed, AtomMoves}
+use Rattle.safety.specs.Atoms.{EntersBlock, Sealed, AtomMoves}
 use Rattle.safety.specs.Rooms.{Does}
 use Rattle.safety.proofs.ReachesStep.{Goes, goes-only}
 use Rattle.safety.proofs.Rooms.{made-only}
@@ -158,7 +156,6 @@ module _ (sc : Script) where
       → AtomMoves sc t i n ch
       → (s₁ : Store) (o₁ : Option Control)
       → step (miniOO sc) s t i ≡ goesTo s₁ o₁
-      → (cs : List ℕ) (s′ : Store) (o′ : Option Control) (r : Reaches (miniOO sc) s′ o′ cs s₁ o₁)
-      → Sealed (miniOO sc) t i n ch cs s₁ s′ o′ (moved (miniOO sc) r)
-  only-that-atom-moves s t i n ch h a s₁ o₁ e cs s′ o′ r =
-      only-that-block-moves (miniOO sc) s t i n ch h (enters-if s t i n ch a s₁ o₁ e) s₁ o₁ e cs s′ o′ r
+      → Sealed (miniOO sc) t i n ch s₁ o₁
+  only-that-atom-moves s t i n ch h a s₁ o₁ e =
+      only-that-block-moves (miniOO sc) s t i n ch h (enters-if s t i n ch a s₁ o₁ e) s₁ o₁ e

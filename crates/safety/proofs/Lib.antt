@@ -18,3 +18,5 @@ pub mod Rooms
 pub mod RoomsRuns
 pub mod Preserved
 pub mod ReachesMoments
+pub mod Accepted
+pub mod Demand3

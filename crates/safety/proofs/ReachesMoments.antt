@@ -22,8 +22,8 @@ use Rattle.safety.specs.Safe.{FitCmd, Real, Safe}
 use Rattle.safety.specs.Needs.{needs}
 use Rattle.safety.specs.Found.{Borne, HeldIn}
 use Rattle.safety.specs.Fits.{EndFits}
-use Rattle.safety.specs.Reaches.{Reaches, begins, Moment}
-use Rattle.safety.specs.Atoms.{moved, Sealed, AtomMoves}
+use Rattle.safety.specs.Reaches.{begins, Moment}
+use Rattle.safety.specs.Atoms.{Sealed, AtomMoves}
 use Rattle.safety.proofs.LinksNeeded.{names-found, held-exists, never-nothing}
 use Rattle.safety.proofs.Focus.{some-moves}
 use Rattle.safety.proofs.Ends.{Left, run-leaves}
@@ -65,10 +65,9 @@ module _ (sc : Script) (root : ℕ) (cs : List ℕ) (fit : FitCmd sc [] (sc .cmd
       → AtomMoves sc t i n ch
       → (s₁ : Store) (o₁ : Option Control)
       → step (miniOO sc) s t i ≡ goesTo s₁ o₁
-      → (ds : List ℕ) (s′ : Store) (o′ : Option Control) (r : Reaches (miniOO sc) s′ o′ ds s₁ o₁)
-      → Sealed (miniOO sc) t i n ch ds s₁ s′ o′ (moved (miniOO sc) r)
-  only-the-block-moves s t x i n ch a s₁ o₁ e ds s′ o′ r =
-      only-that-atom-moves sc s t i n ch (moment-safe s (some t) x .control .nested) a s₁ o₁ e ds s′ o′ r
+      → Sealed (miniOO sc) t i n ch s₁ o₁
+  only-the-block-moves s t x i n ch a s₁ o₁ e =
+      only-that-atom-moves sc s t i n ch (moment-safe s (some t) x .control .nested) a s₁ o₁ e
 
   -- At any moment with an entered atom, the movable commands are those inside the innermost one.
   pub inside-only : (s : Store) (t : Control)

@@ -1,10 +1,8 @@
 -- Atomic blocks in runs (demand 3: "From the step that enters an atomic block to the step that leaves it, only that
--- block moves"), for any machine, nested blocks included.
---   enters   a step that leaves an entered atom, around a command, at a place of control: the block, at that place
---   inside   control is still the same surroundings C with the atom entered at the place, around what is left of it
---   leaves   the last step of the inside: then the place is filled with nothing, and what is around goes on
--- That only the block moves: the same choices, moving the same commands, are a run of the block ALONE, while all that
--- stands around it stays as it is; and no other command is movable. Assumes nothing.
+-- block moves"), for any machine, nested blocks included. A block is entered by a step that leaves an entered atom at a
+-- place of control; it is inside while the surroundings C stand with that atom around what is left of it; it is left
+-- with the last step of its inside, when the place is filled with nothing. Only it moves: the same choices, moving the
+-- same commands, are a run of the block ALONE, all around stays, and no other command is movable. Assumes nothing.
 use Prim.Native.Nat.{ℕ}
 use mathlib.Core.Path.{_≡_}
 use mathlib.Core.Option.{Option, none, some}
@@ -58,18 +56,19 @@ module _ {S E : Type 0} (m : Machine S E) where
       still-inside : StillInside → OnlyBlock
       was-left : LeftSince → OnlyBlock
 
-  -- From the step of t that enters the block at node n, by the choices cs, to the store s′ and the control o′: the
-  -- atom stood at a place of t, with no entered atom beside it, and from then on only the block moves until it's left.
-  pub record Sealed
-      (t : Control) (i n : ℕ) (ch : Chain) (cs : List ℕ) (s s′ : S) (o′ : Option Control) (ms : List (Option Move))
-      : Type 0 where
+  -- The step of t with choice i entered the block at node n and led to the store s with the control o. The atom stood
+  -- at a place of t, with no entered atom beside it; its inside, opened, stands there now, entered; and whatever choices
+  -- follow, only the block moves until it is left.
+  pub record Sealed (t : Control) (i n : ℕ) (ch : Chain) (s : S) (o : Option Control) : Type 0 where
     pub around : Around
     pub quiet : Quiet around
     pub node : ℕ
     pub chain : Chain
     pub picks : getElem? (movable t) i ≡ some (move node chain)
     pub stood : t ≡ plug around (command node chain)
-    pub only : OnlyBlock around (opened (m .cmdAt n) ch) cs s s′ o′ ms
+    pub stands : o ≡ some (plug around (entered (opened (m .cmdAt n) ch)))
+    pub only : (cs : List ℕ) (s′ : S) (o′ : Option Control) (r : Reaches m s′ o′ cs s o)
+        → OnlyBlock around (opened (m .cmdAt n) ch) cs s s′ o′ (moved r)
 
 -- In this language the step that enters a block is the step of an atom: choice i picks, at a node of its own, an atom
 -- around the command at node n, in the chain ch.
