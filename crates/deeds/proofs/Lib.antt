@@ -1,0 +1,4 @@
+pub mod Answers
+pub mod Commands
+pub mod Calls
+pub mod Targets
