@@ -20,3 +20,4 @@ pub mod Preserved
 pub mod ReachesMoments
 pub mod Accepted
 pub mod Demand3
+pub mod Zero
