@@ -21,3 +21,4 @@ pub mod ReachesMoments
 pub mod Accepted
 pub mod Demand3
 pub mod Zero
+pub mod NotVacuous
