@@ -1,4 +1,3 @@
-pub mod Lists
 pub mod Links
 pub mod Fine
 pub mod Later

@@ -2,13 +2,14 @@
 -- the workspace and any choices the answer's numbers are those of the tables; and at every moment of an accepted script's
 -- run the values held have a kind, and the commands that can move have a tag. Assumes that the script is made of bytes.
 use Prim.Native.Nat.{ℕ, zero, suc, _<_, _≤_}
-use mathlib.Core.Path.{_≡_, refl, sym, ap, subst, _∙_}
-use mathlib.Core.Bool.{Bool, true, false, _&&_}
+use mathlib.Core.Path.{_≡_, refl, ap, subst, _∙_}
+use mathlib.Core.Bool.{_&&_}
 use mathlib.Core.Option.{Option, none, some}
 use mathlib.Core.List.{List}
 use native.Mathlib.Omega.{arith}
 use lib.ListN.{getElem?}
 use lib.Dec.{T, leb, leb→le}
+use mir.Facts.{and-yes}
 use Rattle.rules.specs.declared.Chain.{Chain}
 use Rattle.rules.specs.declared.Value.{Value}
 use Rattle.rules.specs.declared.Value.the-variants.{Nothing, Null, Int, Field, Object, Proc, Fault}
@@ -64,11 +65,7 @@ Numbered M (Refusal k p) = OneTo 10 k
 Numbered M (Ending e steps) = OneTo 5 (endNo e) × EndNumbered M e
 
 between : (m k : ℕ) → T (leb 1 k && leb k m) → OneTo m k
-between m k h = go (leb 1 k) refl h
-  where
-    go : (b : Bool) → leb 1 k ≡ b → T (b && leb k m) → OneTo m k
-    go true e x = (leb→le 1 k (subst T (sym e) tt), leb→le k m x)
-    go false e x = absurd x
+between m k h = let p = and-yes (leb 1 k) (leb k m) h in (leb→le 1 k (p .0), leb→le k m (p .1))
 
 -- ---- every answer
 
