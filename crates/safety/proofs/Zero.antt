@@ -1,6 +1,7 @@
--- "Zero is never a tag, kind, result, refusal or fault number of any answer" (document 01): for any bytes, any length of
--- the workspace and any choices the answer's numbers are those of the tables; and at every moment of an accepted script's
--- run the values held have a kind, and the commands that can move have a tag. Assumes that the script is made of bytes.
+-- Document 01: "Zero means nothing as a tag, attribute code, field index, value kind, result, refusal or fault." For any
+-- bytes, any length of the workspace and any choices, the answer's numbers are those of the tables; in an accepted
+-- script no tag, code or field index is zero; and at every moment of its run neither is the kind of a value held, nor
+-- the number of a stored fault, nor the tag of a command that can move. Assumes that the script is made of bytes.
 use Prim.Native.Nat.{ℕ, zero, suc, _<_, _≤_}
 use mathlib.Core.Path.{_≡_, refl, ap, subst, _∙_}
 use mathlib.Core.Bool.{_&&_}
@@ -22,7 +23,7 @@ use Rattle.rules.specs.declared.Verdict.the-variants.{Accepted, Refused}
 use Rattle.rules.specs.declared.Answer.{Answer}
 use Rattle.rules.specs.declared.Answer.the-variants.{Refusal, Ending}
 use Rattle.rules.specs.declared.Node.{Node}
-use Rattle.rules.specs.Image.{Row, Tree, isNone, rowIn, rowOf, tags, makeBy, treeAt, cmdOf, fieldsOf, nodesOf, nodeAt}
+use Rattle.rules.specs.Image.{Row, Tree, isNone, rowIn, rowOf, tags, makeBy, treeAt, cmdOf, fieldsOf, nodesOf, codeAt, nodeAt}
 use Rattle.rules.specs.Refusals.{check}
 use Rattle.rules.specs.Published.{Bytes}
 use Rattle.rules.specs.Good.{RowFits}
@@ -93,7 +94,7 @@ module _ (words : ℕ) (bytes : List ℕ) (are-bytes : Bytes bytes) where
       go Accepted e = no-end-is-zero e choices
       go (Refused k p) e = refusal-number words bytes k p e
 
--- ---- tags
+-- ---- an accepted script
 
 no-row : rowOf 0 ≡ none
 unfolding rowOf rowIn tags
@@ -114,6 +115,17 @@ module _ (words : ℕ) (bytes : List ℕ) (are-bytes : Bytes bytes) (accepted : 
       go : nodeAt bytes n .tag ≡ 0 → RowFits bytes n (rowOf (nodeAt bytes n .tag)) (nodeAt bytes n) → ⊥
       go e r = subst (λ (o : Option Row). RowFits bytes n o (nodeAt bytes n)) (ap rowOf e ∙ no-row) r
 
+  pub no-code-is-zero : (i : ℕ) → i < fieldsOf bytes → 1 ≤ codeAt bytes i
+  no-code-is-zero = good words bytes accepted .code-not-zero
+
+  -- the index of a field node
+  pub no-field-index-is-zero : (n : ℕ) → n < nodesOf bytes → nodeAt bytes n .tag ≡ 1 → OneTo (fieldsOf bytes) (nodeAt bytes n .a)
+  unfolding rowOf rowIn tags
+  no-field-index-is-zero n h e =
+      subst (λ (o : Option Row). RowFits bytes n o (nodeAt bytes n)) (ap rowOf e) (good words bytes accepted .nodes n h) .0
+
+  -- ---- its run, at every moment
+
   module _ (choices : List ℕ) (s : Store) where
     -- the tag of a command that can move
     pub no-moving-tag-is-zero : (t : Control) → At words bytes are-bytes accepted choices s (some t)
@@ -126,8 +138,7 @@ module _ (words : ℕ) (bytes : List ℕ) (are-bytes : Bytes bytes) (accepted : 
             let r = ready-at (scriptOf bytes) s t (always-safe words bytes are-bytes accepted choices s (some t) a) i n ch p in
             subst (λ (x : Tree). FitCmd (scriptOf bytes) (r .seen .names) (cmdOf n x)) (no-tree (nodeAt bytes) n e) (r .seen .scoped)
 
-    -- ---- values held anywhere, at every moment
-
+    -- values held anywhere
     module _ (o : Option Control) (a : At words bytes are-bytes accepted choices s o) where
       real : (v : Value) → HeldIn s v → Real (scriptOf bytes) s v
       real = Moments.held-real (scriptOf bytes) (rootOf bytes) choices (accepted-fits words bytes are-bytes accepted) s o a
