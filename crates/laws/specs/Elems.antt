@@ -27,6 +27,10 @@ elem-first [] r i h = absurd (omega arith)
 elem-first (b ∷ l) r zero h = refl
 elem-first (b ∷ l) r (suc i) h = elem-first l r i (omega arith)
 
+-- an entry of the first part stays
+pub elem-stays : {A : Type 0} (l r : List A) (i : ℕ) (a : A) → getElem? l i ≡ some a → getElem? (l ++ r) i ≡ some a
+elem-stays l r i a e = elem-first l r i (elem-lt l i e) ∙ e
+
 pub elem-second : {A : Type 0} (l r : List A) (i : ℕ) → length l ≤ i → getElem? (l ++ r) i ≡ getElem? r (i - length l)
 elem-second [] r i h = ap (λ (k : ℕ). getElem? r k) (omega arith)
 elem-second (b ∷ l) r zero h = absurd (omega arith)

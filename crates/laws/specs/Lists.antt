@@ -1,13 +1,15 @@
--- The entries of a list, read with an answer that may be missing; a list with one more entry at its end; and one of
--- three ways in which two numbers stand to each other. Assumes nothing.
+-- The entries of a list, read with an answer that may be missing; a list with one more entry at its end, or with one
+-- put in place of another: where its entries are, and what is true of each of them; and one of three ways in which two
+-- numbers stand to each other. Assumes nothing.
 use Prim.Native.Nat.{ℕ, zero, suc, _<_}
-use mathlib.Core.Path.{_≡_, refl, sym, ap, _∙_}
+use mathlib.Core.Path.{_≡_, refl, sym, ap, subst, _∙_}
 use mathlib.Core.Option.{some}
 use mathlib.Core.List.{List, [], _∷_, _++_}
 use mathlib.Core.Logic.{_≢_}
 use native.Mathlib.Omega.{arith}
 use native.Mathlib.Decide.{decLt}
-use lib.ListN.{length, getElem?, set, length-append}
+use lib.ListN.{length, getElem?, set, replicate, length-append}
+use Rattle.laws.specs.Elems.{elem-lt, elem-first}
 
 -- below, equal or above
 pub three : {C : Type 0} (a b : ℕ) → (a < b → C) → (a ≡ b → C) → (b < a → C) → C
@@ -20,9 +22,7 @@ three a b f g h =
 module _ {A : Type 0} where
   -- an entry that is there stands below the length
   pub entry-below : (l : List A) (i : ℕ) (a : A) → getElem? l i ≡ some a → i < length l
-  entry-below [] i a e = let z : _≡_ {A = ℕ} 0 1 = cc in absurd (omega arith)
-  entry-below (b ∷ l) zero a e = omega arith
-  entry-below (b ∷ l) (suc i) a e = let h = entry-below l i a e in omega arith
+  entry-below l i a e = elem-lt l i e
 
   -- below the length there is one
   pub entry-there : (l : List A) (i : ℕ) → i < length l → (a : A) × (getElem? l i ≡ some a)
@@ -35,9 +35,7 @@ module _ {A : Type 0} where
 
   -- one more entry: the old ones stay, the new one stands at the old length
   pub entry-old : (l : List A) (a : A) (i : ℕ) → i < length l → getElem? (l ++ (a ∷ [])) i ≡ getElem? l i
-  entry-old [] a i h = absurd (omega arith)
-  entry-old (b ∷ l) a zero h = refl
-  entry-old (b ∷ l) a (suc i) h = entry-old l a i (omega arith)
+  entry-old l a i h = elem-first l (a ∷ []) i h
 
   pub entry-new : (l : List A) (a : A) → getElem? (l ++ (a ∷ [])) (length l) ≡ some a
   entry-new [] a = refl
@@ -67,3 +65,34 @@ module _ {A : Type 0} where
   entry-set-other (c ∷ l) zero (suc j) a h = refl
   entry-set-other (c ∷ l) (suc i) zero a h = refl
   entry-set-other (c ∷ l) (suc i) (suc j) a h = entry-set-other l i j a (λ e. h (ap suc e))
+
+  -- ---- what holds of every entry, each with its number
+
+  -- .. holds after one more
+  pub each-push : (P : ℕ → A → Type 0) (l : List A) (a : A)
+      → ((k : ℕ) (x : A) → getElem? l k ≡ some x → P k x)
+      → P (length l) a
+      → (k : ℕ) (x : A) → getElem? (l ++ (a ∷ [])) k ≡ some x → P k x
+  each-push P [] a h p zero x e = subst (λ y. P zero y) (let z : a ≡ x = cc in z) p
+  each-push P [] a h p (suc k) x e = let z : _≡_ {A = ℕ} 0 1 = cc in absurd (omega arith)
+  each-push P (y ∷ l) a h p zero x e = h zero x e
+  each-push P (y ∷ l) a h p (suc k) x e = each-push (λ n. P (suc n)) l a (λ n z d. h (suc n) z d) p k x e
+
+  -- .. after one is put in place of another
+  pub each-set : (P : A → Type 0) (l : List A) (i : ℕ) (a : A)
+      → ((k : ℕ) (x : A) → getElem? l k ≡ some x → P x)
+      → P a
+      → (k : ℕ) (x : A) → getElem? (set l i a) k ≡ some x → P x
+  each-set P [] i a h p k x e = h k x e
+  each-set P (y ∷ l) zero a h p zero x e = let z : a ≡ x = cc in subst P z p
+  each-set P (y ∷ l) zero a h p (suc k) x e = h (suc k) x e
+  each-set P (y ∷ l) (suc i) a h p zero x e = h zero x e
+  each-set P (y ∷ l) (suc i) a h p (suc k) x e = each-set P l i a (λ n. h (suc n)) p k x e
+
+  -- .. and of one entry many times
+  pub each-replicate : (P : A → Type 0) (n : ℕ) (a : A)
+      → P a
+      → (k : ℕ) (x : A) → getElem? (replicate n a) k ≡ some x → P x
+  each-replicate P zero a p k x e = let z : _≡_ {A = ℕ} 0 1 = cc in absurd (omega arith)
+  each-replicate P (suc n) a p zero x e = let z : a ≡ x = cc in subst P z p
+  each-replicate P (suc n) a p (suc k) x e = each-replicate P n a p k x e

@@ -14,9 +14,8 @@ use Rattle.rules.specs.declared.Next.{Next}
 use Rattle.rules.specs.declared.Next.the-variants.{Enters}
 use Rattle.rules.specs.declared.Stop.{Stop}
 use Rattle.rules.specs.declared.Stop.the-variants.{Full, OutOfRange}
-use Rattle.rules.specs.Control.{Control, entered, opened, Move, move, movable, left, put, fits}
+use Rattle.rules.specs.Control.{Control, entered, opened, Move, move, movable, left, put, fits, Nested}
 use Rattle.rules.specs.Step.{Machine, Plan, does, refuses, Outcome, goesTo, stops, judged, chosen, plan, follow, step}
-use Rattle.safety.specs.Safe.{Nested}
 use Rattle.rules.specs.Around.{Around, plug, fill, Quiet}
 use Rattle.safety.specs.Reaches.{Reaches, stays, goes}
 use Rattle.safety.specs.Atoms.{moved, EntersBlock, OnlyBlock, still-inside, was-left, Sealed}

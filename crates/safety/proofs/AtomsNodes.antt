@@ -13,9 +13,8 @@ use Rattle.rules.specs.declared.Next.the-variants.{Ended, GoesOn, Repeats, Ente
 use Rattle.rules.specs.declared.Effect.the-variants.{Keep}
 use Rattle.rules.specs.State.{Store}
 use Rattle.rules.specs.Eval.{Script, Procedure, formal, Res, ok, fault, stuck, _>>=_, Closure, closure, eval}
-use Rattle.rules.specs.Control.{Control, move, movable}
+use Rattle.rules.specs.Control.{Control, move, movable, Nested}
 use Rattle.rules.specs.Step.{does, goesTo, step, Deed, deed, enter, either, calling, exec, miniOO}
-use Rattle.safety.specs.Safe.{Nested}
 use Rattle.safety.specs.Atoms.{EntersBlock, Sealed, AtomMoves}
 use Rattle.safety.specs.Rooms.{Does}
 use Rattle.safety.proofs.ReachesStep.{Goes, goes-only}

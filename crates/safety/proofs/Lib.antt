@@ -1,4 +1,3 @@
-pub mod Lists
 pub mod Links
 pub mod Fine
 pub mod Later
@@ -20,3 +19,5 @@ pub mod Preserved
 pub mod ReachesMoments
 pub mod Accepted
 pub mod Demand3
+pub mod Zero
+pub mod NotVacuous

@@ -18,6 +18,7 @@ use Rattle.rules.specs.Eval.{Script}
 use Rattle.rules.specs.Control.{Control, parts, atomIn, Move, move, movable, fits}
 use Rattle.rules.specs.Step.{goesTo, step, miniOO}
 use Rattle.rules.specs.Run.{runFrom, run}
+use Rattle.rules.proofs.ControlLaws.{some-moves}
 use Rattle.safety.specs.Safe.{FitCmd, Real, Safe}
 use Rattle.safety.specs.Needs.{needs}
 use Rattle.safety.specs.Found.{Borne, HeldIn}
@@ -25,7 +26,6 @@ use Rattle.safety.specs.Fits.{EndFits}
 use Rattle.safety.specs.Reaches.{begins, Moment}
 use Rattle.safety.specs.Atoms.{Sealed, AtomMoves}
 use Rattle.safety.proofs.LinksNeeded.{names-found, held-exists, never-nothing}
-use Rattle.safety.proofs.Focus.{some-moves}
 use Rattle.safety.proofs.Ends.{Left, run-leaves}
 use Rattle.safety.proofs.AtomsInside.{Innermost, innermost, others-wait}
 use Rattle.safety.proofs.AtomsNodes.{only-that-atom-moves}
