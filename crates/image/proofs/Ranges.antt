@@ -1,10 +1,10 @@
 -- The kind of a tag by its ranges: one law for each range and for each gap between them. Assumes nothing.
 use Prim.Native.Nat.{ℕ, _<_, _≤_}
 use mathlib.Core.Path.{_≡_}
-use mathlib.Core.Option.{Option, none, some}
+use mathlib.Core.Option.{none, some}
 use native.Mathlib.Omega.{arith}
 use borrow.Author.Tests.{le-leb, lt-leb}
-use Rattle.rules.specs.Image.{Kind, anExp, aTest, aCmd, kindOf}
+use Rattle.rules.specs.Image.{anExp, aTest, aCmd, kindOf}
 
 module _ (x : ℕ) where
   pub below-all : x < 1 → none ≡ kindOf x

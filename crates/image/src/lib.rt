@@ -5,7 +5,7 @@
 
 use rules::Node;
 ghost use mathlib.Core.Path.{_≡_};
-ghost use Prim.Native.Nat.{ℕ, _+_, _*_, _<_, _≤_};
+ghost use Prim.Native.Nat.{_+_, _*_, _<_, _≤_};
 ghost use lib.ListN.{length};
 ghost use Rattle.rules.specs.Image.{wordAt, fieldsOf, nodesOf, namesOf, codeAt, partOf, kindOf, rowOf};
 ghost use Rattle.rules.specs.Good.{Sized};

@@ -1,6 +1,6 @@
 -- `image::part` meets its contract.
 -- Assumes nothing.
-use mathlib.Core.Path.{_∙_, _≡_, ap}
+use mathlib.Core.Path.{_∙_}
 use Rattle.rules.specs.Image.{partOf}
 use native.Mathlib.Omega.{arith}
 use borrow.Author.Needs.{needs}

@@ -23,7 +23,10 @@ part-requires-4 c κs = search needs
 
 returns : tie.Need-returns
 unfolding nodeAt
-returns c = record { is = rw (sym (c .part4 .ensures .0), sym (c .before .part3 .ensures .0), sym (c .before .before .part2 .ensures .0), sym (c .before .before .before .part .ensures .0)); small-tag = search needs; small-a = search needs; small-b = search needs; small-c = search needs }
+returns c =
+    let c2 = c .before .before in
+    let c3 = c2 .before in
+    record { is = rw (sym (c .part4 .ensures .0), sym (c .before .part3 .ensures .0), sym (c2 .part2 .ensures .0), sym (c3 .part .ensures .0)); small-tag = search needs; small-a = search needs; small-b = search needs; small-c = search needs }
 
 pub read-spec : {M : Type 1} → statement M
 read-spec =
