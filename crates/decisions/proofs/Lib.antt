@@ -1,0 +1,4 @@
+pub mod Upright
+pub mod Deciding
+pub mod Applying
+pub mod Asking
