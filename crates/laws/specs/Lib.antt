@@ -1,1 +1,5 @@
+pub mod Bools
 pub mod Course
+pub mod Elems
+pub mod Lists
+pub mod UpTo

@@ -1,0 +1,129 @@
+// Rule 8 (document 01, "Refused scripts"): every node but the root is a child exactly once, and the root is a command.
+// The uses of every node are counted in one pass, in a local array with a number for each node.
+
+use image::Operand;
+use image::Shape;
+use rules::Node;
+use rules::Verdict;
+ghost use mathlib.Core.Path.{_≡_};
+ghost use Prim.Native.Nat.{_+_, _<_};
+ghost use lib.ListN.{getD, set};
+ghost use Rattle.rules.specs.Image.{nodesOf};
+ghost use Rattle.rules.specs.Good.{Sized};
+ghost use Rattle.image.specs.Tags.{roleIs};
+ghost use Rattle.checklaws.specs.Pieces.{refusal, useRules, placeSays, rulesSay};
+ghost use Rattle.checklaws.specs.Counts.{Most, Ticks, TicksAll, Counts};
+
+fn add_one(t: &mut [u16], w: usize)
+    requires { ⌜ Most 65534 (now t) ⌝ }
+    ensures { λ _. ⌜ now (t .exit) ≡ set (now (t .entry)) w (getD (now (t .entry)) w 0 + 1) ⌝ }
+{
+    if w < t.len() {
+        t[w] = t[w] + 1;
+    }
+}
+
+// Counts one word of a node: a child is used once more.
+fn tick(t: &mut [u16], p: Operand, w: usize)
+    requires { ⌜ Most 65534 (now t) ⌝ }
+    ensures { λ _. ⌜ Ticks (roleIs p) w (now (t .entry)) (now (t .exit)) ⌝ }
+{
+    match p {
+        Operand::Unused => {}
+        Operand::Index => {}
+        Operand::Half => {}
+        Operand::Uses => {}
+        Operand::Binds => {}
+        Operand::ChildExp => add_one(t, w),
+        Operand::ChildTest => add_one(t, w),
+        Operand::ChildCmd => add_one(t, w),
+    }
+}
+
+fn tick_words(t: &mut [u16], x: Node, p: Operand, q: Operand, r: Operand)
+    requires { ⌜ Most 60000 (now t) ⌝ }
+    ensures { λ _. ⌜ TicksAll (roleIs p) (roleIs q) (roleIs r) x (now (t .entry)) (now (t .exit)) ⌝ }
+{
+    let a = x.a;
+    let b = x.b;
+    let c = x.c;
+    tick(t, p, a);
+    tick(t, q, b);
+    tick(t, r, c);
+}
+
+fn count_node(img: &[u8], t: &mut [u16], n: usize)
+    requires { ⌜ Sized (now img) ⌝ }
+    requires { ⌜ n < nodesOf (now img) ⌝ }
+    requires { ⌜ Counts (now img) n (now t) ⌝ }
+    ensures { λ _. ⌜ Counts (now (img .entry)) (n + 1) (now (t .exit)) ⌝ }
+{
+    let x = image::read(img, n);
+    let tag = x.tag;
+    let shape = image::operands(tag);
+    match shape {
+        Shape::NoTag => {}
+        Shape::Words(p, q, r) => tick_words(t, x, p, q, r),
+    }
+}
+
+fn count(img: &[u8], t: &mut [u16])
+    requires { ⌜ Sized (now img) ⌝ }
+    requires { ⌜ Counts (now img) 0 (now t) ⌝ }
+    ensures { λ _. ⌜ Counts (now (img .entry)) (nodesOf (now (img .entry))) (now (t .exit)) ⌝ }
+{
+    let m = image::nodes(img);
+    let mut n: usize = 0;
+    while n < m {
+        count_node(img, t, n);
+        n += 1;
+    }
+}
+
+fn use_reason(img: &[u8], t: &[u16], n: usize) -> u32
+    requires { ⌜ Sized (now img) ⌝ }
+    requires { ⌜ n < nodesOf (now img) ⌝ }
+    requires { ⌜ Counts (now img) (nodesOf (now img)) (now t) ⌝ }
+    ensures { λ r. ⌜ refusal r n ≡ placeSays (now (img .entry)) useRules n ⌝ }
+{
+    let m = image::nodes(img);
+    if n + 1 == m {
+        let x = image::read(img, n);
+        let tag = x.tag;
+        let k = image::kind(tag);
+        if crate::nodes::is_cmd(k) {
+            return 0;
+        }
+        return 8;
+    }
+    if t[n] == 1 {
+        return 0;
+    }
+    8
+}
+
+fn lowest_use(img: &[u8], t: &[u16]) -> Verdict
+    requires { ⌜ Sized (now img) ⌝ }
+    requires { ⌜ Counts (now img) (nodesOf (now img)) (now t) ⌝ }
+    ensures { λ r. ⌜ r ≡ rulesSay (now (img .entry)) useRules (nodesOf (now (img .entry))) ⌝ }
+{
+    let m = image::nodes(img);
+    let mut n: usize = 0;
+    while n < m {
+        let k = use_reason(img, t, n);
+        if k != 0 {
+            return Verdict::Refused(k, n as u32);
+        }
+        n += 1;
+    }
+    Verdict::Accepted
+}
+
+pub fn all_uses(img: &[u8]) -> Verdict
+    requires { ⌜ Sized (now img) ⌝ }
+    ensures { λ r. ⌜ r ≡ rulesSay (now (img .entry)) useRules (nodesOf (now (img .entry))) ⌝ }
+{
+    let mut t = [0u16; 2048];
+    count(img, &mut t);
+    lowest_use(img, &t)
+}

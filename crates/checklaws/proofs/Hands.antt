@@ -1,0 +1,184 @@
+-- Names handed down from the last node are those that the tree hands down: in a formed script, the tree strays at a node
+-- exactly when the node strays by the names that it was handed (`strays-is`). Where a node doesn't stray, no tree strays
+-- there, from the leaves up (`never-strays`); where it does, so does each tree that it stands in, up to the root
+-- (`climb`). Assumes nothing.
+use Prim.Native.Nat.{ℕ, zero, suc, _+_, _-_, _<_, _≤_}
+use mathlib.Core.Path.{_≡_, refl, _∙_}
+use mathlib.Core.Bool.{Bool, true, false, cond, _&&_, _||_}
+use mathlib.Core.Option.{Option, none, some}
+use mathlib.Core.List.{List, []}
+use mathlib.Core.Logic.{⊎-elim}
+use native.Mathlib.Omega.{arith}
+use native.Mathlib.Nat.{eq-or-lt-of-le}
+use lib.Dec.{eqb, ltb}
+use borrow.Author.Tests.{lt-ltb, eq-eqb, eqb-true}
+use Rattle.rules.specs.declared.Node.{Node}
+use Rattle.rules.specs.Image.{Role, unused, index, half, uses, binds, child, Row, row, rowOf, nodesOf, nodeAt, treeAt}
+use Rattle.rules.specs.Scope.{Names}
+use Rattle.rules.specs.Refusals.{hit, hits, straysTree}
+use Rattle.checklaws.specs.Hands.{Formed, strayRow, growRow, handOn, handedBy, handed, strayAt}
+use Rattle.checklaws.proofs.Parents.{hitsAt, only, parent, hit-is, one-of, child-below}
+use Rattle.checklaws.proofs.StrayRows.{strayBelow, strayKids, rowStrays, strays-row}
+
+-- ---- the trees of the children
+
+module _ (s : List ℕ) (Γ : Names) (t : ℕ) where
+  below-none : (p : Role) (w : ℕ) → (0 < hit p w w → straysTree Γ (treeAt (nodeAt s) w) t ≡ false) → strayBelow s Γ p w t ≡ false
+  unfolding strayBelow hit
+  below-none unused w f = refl
+  below-none index w f = refl
+  below-none half w f = refl
+  below-none uses w f = refl
+  below-none binds w f = refl
+  below-none (child k) w f = f (rw (eq-eqb w w refl) (omega arith))
+
+  kids-none : (o : Option Row) (x : Node) → ((w : ℕ) → 0 < hits o x w → straysTree Γ (treeAt (nodeAt s) w) t ≡ false) → strayKids s Γ o x t ≡ false
+  unfolding strayKids hits
+  kids-none none x f = refl
+  kids-none (some (row m g p q r)) x f =
+      rw
+      (below-none p (x .a) (λ h. f (x .a) (omega arith)), below-none q (x .b) (λ h. f (x .b) (omega arith)), below-none r (x .c) (λ h. f (x .c) (omega arith)))
+
+  below-some : (p : Role) (v w : ℕ) → 0 < hit p v w → straysTree Γ (treeAt (nodeAt s) w) t ≡ true → strayBelow s Γ p v t ≡ true
+  unfolding strayBelow hit
+  below-some unused v w h e = absurd (omega arith)
+  below-some index v w h e = absurd (omega arith)
+  below-some half v w h e = absurd (omega arith)
+  below-some uses v w h e = absurd (omega arith)
+  below-some binds v w h e = absurd (omega arith)
+  below-some (child k) v w h e = rw (hit-is (child k) v w h) e
+
+  or-left : (a b c : Bool) → a ≡ true → (a || b || c) ≡ true
+  or-left a b c e = rw e
+
+  or-mid : (a b c : Bool) → b ≡ true → (a || b || c) ≡ true
+  or-mid true b c e = refl
+  or-mid false b c e = rw e
+
+  or-right : (a b c : Bool) → c ≡ true → (a || b || c) ≡ true
+  or-right true b c e = refl
+  or-right false true c e = refl
+  or-right false false c e = e
+
+  kids-some : (o : Option Row) (x : Node) (w : ℕ) → 0 < hits o x w → straysTree Γ (treeAt (nodeAt s) w) t ≡ true → strayKids s Γ o x t ≡ true
+  unfolding strayKids hits
+  kids-some none x w h e = absurd (omega arith)
+  kids-some (some (row m g p q r)) x w h e =
+      let a = strayBelow s Γ p (x .a) t in
+      let b = strayBelow s Γ q (x .b) t in
+      let c = strayBelow s Γ r (x .c) t in
+      one-of (hit p (x .a) w) (hit q (x .b) w) (hit r (x .c) w) h
+      (λ i. or-left a b c (below-some p (x .a) w i e))
+      (λ i. or-mid a b c (below-some q (x .b) w i e))
+      (λ i. or-right a b c (below-some r (x .c) w i e))
+
+-- ---- what is handed
+
+module _ (s : List ℕ) where
+  pub handed-none : (k : ℕ) → handed s (nodesOf s) k ≡ []
+  unfolding handed handedBy
+  handed-none k = let e : nodesOf s - nodesOf s ≡ 0 = omega arith in rw e
+
+  pub handed-step : (n k : ℕ) → n < nodesOf s → handed s n k ≡ cond (ltb 0 (hitsAt s k n)) (growRow (handed s (n + 1) n) (rowOf (nodeAt s n .tag)) (nodeAt s n)) (handed s (n + 1) k)
+  unfolding handed handedBy handOn hitsAt
+  handed-step n k l =
+      let e : nodesOf s - n ≡ suc (nodesOf s - (n + 1)) = omega arith in
+      let d : nodesOf s - suc (nodesOf s - (n + 1)) ≡ n = omega arith in
+      rw (e, handedBy, d)
+
+  keeps : (d n k : ℕ) → d + n ≤ nodesOf s → ((i : ℕ) → n ≤ i → i < d + n → hitsAt s k i ≡ 0) → handed s n k ≡ handed s (d + n) k
+  keeps zero n k l f = let e : 0 + n ≡ n = omega arith in rw e
+  keeps (suc d) n k l f =
+      let z = f n (omega arith) (omega arith) in
+      let e : suc d + n ≡ d + (n + 1) = omega arith in
+      handed-step n k (omega arith)
+      ∙ rw (z, e) (keeps d (n + 1) k (omega arith) (λ i g h. f i (omega arith) (omega arith)))
+
+-- ---- a formed script
+
+module _ (s : List ℕ) (g : Formed s) where
+  names : ℕ → Names
+  names n = handed s (n + 1) n
+
+  child-names : (n c : ℕ) → n < nodesOf s → 0 < hitsAt s c n → names c ≡ growRow (names n) (rowOf (nodeAt s n .tag)) (nodeAt s n)
+  unfolding names
+  child-names n c l h =
+      let b = child-below s n c (g .nodes n l) h in
+      let once = g .once c (omega arith) in
+      let e : (n - (c + 1)) + (c + 1) ≡ n = omega arith in
+      let kept =
+      keeps s (n - (c + 1)) (c + 1) c (omega arith)
+      (λ i j k. only s c (nodesOf s) n i once l h (omega arith) (λ d. omega arith)) in
+      (rw e at kept) ∙ handed-step s n c l ∙ rw (lt-ltb 0 (hitsAt s c n) h)
+
+  root-names : (n : ℕ) → n + 1 ≡ nodesOf s → names n ≡ []
+  unfolding names
+  root-names n e = rw e (handed-none s n)
+
+  and-none : (n t : ℕ) → strayAt s t ≡ false → (eqb n t && strayRow (names n) (rowOf (nodeAt s n .tag)) (nodeAt s n)) ≡ false
+  unfolding strayAt names
+  and-none n t e = go (eqb n t) refl
+    where
+      go : (b : Bool) → eqb n t ≡ b → (b && strayRow (handed s (n + 1) n) (rowOf (nodeAt s n .tag)) (nodeAt s n)) ≡ false
+      go true h = let d = eqb-true n t h in rw d e
+      go false h = refl
+
+  -- a node whose children's trees don't stray at t, and which doesn't itself
+  none-here : (t n : ℕ) → strayAt s t ≡ false → n < nodesOf s → ((w : ℕ) → w < n → straysTree (names w) (treeAt (nodeAt s) w) t ≡ false) → straysTree (names n) (treeAt (nodeAt s) n) t ≡ false
+  unfolding rowStrays hitsAt
+  none-here t n e l f =
+      strays-row s (names n) n t (g .nodes n l)
+      ∙ rw
+      (and-none n t e, kids-none s (growRow (names n) (rowOf (nodeAt s n .tag)) (nodeAt s n)) t (rowOf (nodeAt s n .tag)) (nodeAt s n) (λ w h. rw (← child-names n w l h) (f w (child-below s n w (g .nodes n l) h))))
+
+  never-strays : (t : ℕ) → strayAt s t ≡ false → (b n : ℕ) → n < b → n < nodesOf s → straysTree (names n) (treeAt (nodeAt s) n) t ≡ false
+  never-strays t e zero n l h = absurd (omega arith)
+  never-strays t e (suc b) n l h =
+      none-here t n e h (λ w i. never-strays t e b w (omega arith) (omega arith))
+
+  or-last : (a b : Bool) → b ≡ true → (a || b) ≡ true
+  or-last true b e = refl
+  or-last false b e = e
+
+  -- a node one of whose children's trees strays at t
+  some-here : (t n c : ℕ) → n < nodesOf s → 0 < hitsAt s c n → straysTree (names c) (treeAt (nodeAt s) c) t ≡ true → straysTree (names n) (treeAt (nodeAt s) n) t ≡ true
+  unfolding rowStrays hitsAt
+  some-here t n c l h e =
+      let f : straysTree (growRow (names n) (rowOf (nodeAt s n .tag)) (nodeAt s n)) (treeAt (nodeAt s) c) t ≡ true = rw (child-names n c l h) at e in
+      strays-row s (names n) n t (g .nodes n l)
+      ∙ or-last (eqb n t && strayRow (names n) (rowOf (nodeAt s n .tag)) (nodeAt s n)) _ (kids-some s (growRow (names n) (rowOf (nodeAt s n .tag)) (nodeAt s n)) t (rowOf (nodeAt s n .tag)) (nodeAt s n) c h f)
+
+  AtRoot : ℕ → Type 0
+  AtRoot t = straysTree [] (treeAt (nodeAt s) (nodesOf s - 1)) t ≡ true
+
+  at-root : (t c : ℕ) → c + 1 ≡ nodesOf s → straysTree (names c) (treeAt (nodeAt s) c) t ≡ true → AtRoot t
+  unfolding AtRoot
+  at-root t c d e =
+      let z : nodesOf s - 1 ≡ c = omega arith in
+      rw (z, ← root-names c d) e
+
+  climb : (t d c : ℕ) → c < nodesOf s → nodesOf s ≤ c + 1 + d → straysTree (names c) (treeAt (nodeAt s) c) t ≡ true → AtRoot t
+  climb t zero c l m e = at-root t c (omega arith) e
+  climb t (suc d) c l m e =
+      ⊎-elim
+      (λ (z : suc c ≡ nodesOf s). at-root t c (omega arith) e)
+      (λ (z : suc c < nodesOf s).
+      let u = g .once c z in
+      let p = parent s c (nodesOf s) (omega arith) in
+      let b = child-below s (p .node) c (g .nodes (p .node) (p .below)) (p .hits-it) in
+      climb t d (p .node) (p .below) (omega arith) (some-here t (p .node) c (p .below) (p .hits-it) e))
+      (eq-or-lt-of-le {n = suc c} {m = nodesOf s} l)
+
+  own-strays : (t : ℕ) → t < nodesOf s → strayAt s t ≡ true → straysTree (names t) (treeAt (nodeAt s) t) t ≡ true
+  unfolding rowStrays strayAt names
+  own-strays t l e = strays-row s (names t) t t (g .nodes t l) ∙ rw (eq-eqb t t refl, e)
+
+  pub strays-is : (t : ℕ) → t < nodesOf s → straysTree [] (treeAt (nodeAt s) (nodesOf s - 1)) t ≡ strayAt s t
+  unfolding AtRoot
+  strays-is t l = go (strayAt s t) refl
+    where
+      go : (b : Bool) → strayAt s t ≡ b → straysTree [] (treeAt (nodeAt s) (nodesOf s - 1)) t ≡ b
+      go true e = climb t (nodesOf s) t l (omega arith) (own-strays t l e)
+      go false e =
+          rw (← root-names (nodesOf s - 1) (omega arith))
+          (never-strays t e (nodesOf s) (nodesOf s - 1) (omega arith) (omega arith))

@@ -1,0 +1,12 @@
+pub mod Places
+pub mod Whole
+pub mod Words
+pub mod Head
+pub mod Three
+pub mod Counting
+pub mod StrayRows
+pub mod Parents
+pub mod Hands
+pub mod BitLaws
+pub mod Handing
+pub mod Formed

@@ -1,0 +1,115 @@
+-- Parents: a node that is used has a parent (`parent`), a node that is used once has one alone (`only`), and a child stands
+-- below its parent (`child-below`). Assumes nothing.
+use Prim.Native.Nat.{ℕ, zero, suc, _+_, _<_, _≤_}
+use mathlib.Core.Path.{_≡_, refl}
+use mathlib.Core.Bool.{Bool, true, false, cond}
+use mathlib.Core.Option.{Option, none, some}
+use mathlib.Core.List.{List}
+use mathlib.Core.Logic.{⊎-elim}
+use native.Mathlib.Omega.{arith}
+use native.Mathlib.Nat.{eq-or-lt-of-le}
+use native.Mathlib.Decide.{decLt}
+use lib.Dec.{eqb}
+use borrow.Author.Tests.{eqb-true}
+use Rattle.rules.specs.declared.Node.{Node}
+use Rattle.rules.specs.Image.{Role, unused, index, half, uses, binds, child, Row, row, rowOf, nodeAt}
+use Rattle.rules.specs.Refusals.{hit, hits, usesOf}
+use Rattle.rules.specs.Good.{Fit, RowFits}
+
+-- how often k is a child of node n
+unfoldable pub hitsAt : List ℕ → ℕ → ℕ → ℕ
+hitsAt s k n = hits (rowOf (nodeAt s n .tag)) (nodeAt s n) k
+
+pub record Parent (s : List ℕ) (k m : ℕ) : Type 0 where
+  pub node : ℕ
+  pub below : node < m
+  pub hits-it : 0 < hitsAt s k node
+
+module _ (s : List ℕ) (k : ℕ) where
+  uses-more : (m : ℕ) → usesOf s k (suc m) ≡ usesOf s k m + hitsAt s k m
+  unfolding usesOf hitsAt
+  uses-more m = refl
+
+  at-most : (m n : ℕ) → n < m → hitsAt s k n ≤ usesOf s k m
+  at-most zero n l = absurd (omega arith)
+  at-most (suc m) n l =
+      let e = uses-more m in
+      ⊎-elim
+      (λ (d : n ≡ m). rw d (omega arith))
+      (λ (h : n < m). let i = at-most m n h in omega arith)
+      (eq-or-lt-of-le {n = n} {m = m} (omega arith))
+
+  both : (m n i : ℕ) → n < i → i < m → hitsAt s k n + hitsAt s k i ≤ usesOf s k m
+  both zero n i l h = absurd (omega arith)
+  both (suc m) n i l h =
+      let e = uses-more m in
+      ⊎-elim
+      (λ (d : i ≡ m). let j = at-most m n (omega arith) in rw d (omega arith))
+      (λ (g : i < m). let j = both m n i l g in omega arith)
+      (eq-or-lt-of-le {n = i} {m = m} (omega arith))
+
+  pub only : (m n i : ℕ) → usesOf s k m ≡ 1 → n < m → 0 < hitsAt s k n → i < m → (i ≡ n → ⊥) → hitsAt s k i ≡ 0
+  only m n i e l h g f =
+      elim (decLt i n) [
+        | yes b ↦ let j = both m i n b l in omega arith
+        | no b ↦
+            let c : n < i = omega arith in
+            let j = both m n i c g in
+            omega arith
+      ]
+
+  pub parent : (m : ℕ) → 0 < usesOf s k m → Parent s k m
+  unfolding usesOf
+  parent zero h = absurd (omega arith)
+  parent (suc m) h = go (λ i. parent m i) (decLt 0 (hitsAt s k m))
+    where
+      go : (0 < usesOf s k m → Parent s k m) → Dec (0 < hitsAt s k m) → Parent s k (suc m)
+      go rest (yes i) = record { node = m; below = omega arith; hits-it = i }
+      go rest (no i) =
+          let e = uses-more m in
+          let p = rest (omega arith) in
+          let l = p .below in
+          record { node = p .node; below = omega arith; hits-it = p .hits-it }
+
+-- a word that is hit is a child's number
+pub hit-is : (p : Role) (w k : ℕ) → 0 < hit p w k → w ≡ k
+unfolding hit
+hit-is unused w k h = absurd (omega arith)
+hit-is index w k h = absurd (omega arith)
+hit-is half w k h = absurd (omega arith)
+hit-is uses w k h = absurd (omega arith)
+hit-is binds w k h = absurd (omega arith)
+hit-is (child j) w k h = go (eqb w k) refl h
+  where
+    go : (b : Bool) → eqb w k ≡ b → 0 < cond b 1 0 → w ≡ k
+    go true e i = eqb-true w k e
+    go false e i = absurd (omega arith)
+
+-- one of three words
+pub one-of : {P : Type 0} (a b c : ℕ) → 0 < a + b + c → (0 < a → P) → (0 < b → P) → (0 < c → P) → P
+one-of (suc a) b c h f g k = f (omega arith)
+one-of zero (suc b) c h f g k = g (omega arith)
+one-of zero zero c h f g k = k (omega arith)
+
+module _ (s : List ℕ) (n : ℕ) where
+  word-below : (p : Role) (w k : ℕ) → Fit s n p w → 0 < hit p w k → w < n
+  unfolding hit
+  word-below unused w k f h = absurd (omega arith)
+  word-below index w k f h = absurd (omega arith)
+  word-below half w k f h = absurd (omega arith)
+  word-below uses w k f h = absurd (omega arith)
+  word-below binds w k f h = absurd (omega arith)
+  word-below (child j) w k f h = f .0
+
+  row-below : (o : Option Row) (x : Node) (k : ℕ) → RowFits s n o x → 0 < hits o x k → k < n
+  unfolding hits
+  row-below none x k f h = absurd f
+  row-below (some (row m t p q r)) x k f h =
+      one-of (hit p (x .a) k) (hit q (x .b) k) (hit r (x .c) k) h
+      (λ i. rw (← hit-is p (x .a) k i) (word-below p (x .a) k (f .0) i))
+      (λ i. rw (← hit-is q (x .b) k i) (word-below q (x .b) k (f .1) i))
+      (λ i. rw (← hit-is r (x .c) k i) (word-below r (x .c) k (f .2) i))
+
+  pub child-below : (k : ℕ) → RowFits s n (rowOf (nodeAt s n .tag)) (nodeAt s n) → 0 < hitsAt s k n → k < n
+  unfolding hitsAt
+  child-below k f h = row-below (rowOf (nodeAt s n .tag)) (nodeAt s n) k f h

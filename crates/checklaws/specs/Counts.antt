@@ -1,0 +1,29 @@
+-- How the uses of nodes are counted for rule 8: a list with a number for each node. Assumes nothing.
+use Prim.Native.Nat.{ℕ, _+_, _<_, _≤_}
+use mathlib.Core.Path.{_≡_}
+use mathlib.Core.List.{List}
+use lib.ListN.{length, getD}
+use Rattle.rules.specs.declared.Node.{Node}
+use Rattle.rules.specs.Image.{Role}
+use Rattle.rules.specs.Refusals.{hit, usesOf}
+
+-- no number is above b
+pub record Most (b : ℕ) (t : List ℕ) : Type 0 where
+  pub most : (k : ℕ) → getD t k 0 ≤ b
+
+-- t′ is t with one word of a node counted
+pub record Ticks (p : Role) (w : ℕ) (t t′ : List ℕ) : Type 0 where
+  pub long : length t′ ≡ length t
+  pub adds : (k : ℕ) → k < length t → getD t′ k 0 ≡ getD t k 0 + hit p w k
+
+-- and with the three words of a node counted
+pub record TicksAll (p q r : Role) (x : Node) (t t′ : List ℕ) : Type 0 where
+  pub long : length t′ ≡ length t
+  pub adds : (k : ℕ)
+      → k < length t
+      → getD t′ k 0 ≡ getD t k 0 + (hit p (x .a) k + hit q (x .b) k + hit r (x .c) k)
+
+-- the uses by the nodes below m
+pub record Counts (s : List ℕ) (m : ℕ) (t : List ℕ) : Type 0 where
+  pub long : length t ≡ 2048
+  pub counts : (k : ℕ) → k < 2048 → getD t k 0 ≡ usesOf s k m

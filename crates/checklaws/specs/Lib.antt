@@ -1,0 +1,5 @@
+pub mod Pieces
+pub mod Rest
+pub mod Counts
+pub mod Hands
+pub mod Bits

@@ -1,0 +1,63 @@
+-- The pieces of the check (document 01, "Refused scripts"): what each answers, in the words of rules/specs/Refusals.
+-- A reason is its number; 0 is none. The rules after 10 don't look at the workspace, so their pieces are stated for one
+-- of the full size. That the pieces make the check is shown in proofs/Whole. Assumes nothing.
+use Prim.Native.Nat.{ℕ}
+use mathlib.Core.Bool.{Bool, cond, not, _&&_}
+use mathlib.Core.Option.{Option, none}
+use mathlib.Core.List.{List, [], _∷_}
+use lib.ListN.{length}
+use lib.Dec.{eqb, ltb, leb}
+use Rattle.rules.specs.declared.Node.{Node}
+use Rattle.rules.specs.declared.Verdict.{Verdict}
+use Rattle.rules.specs.declared.Verdict.the-variants.{Accepted, Refused}
+use Rattle.rules.specs.Image.{Kind, Role, kindOf, fieldsOf, namesOf, nodeAt}
+use Rattle.rules.specs.Refusals.{Reason, wrongCode, noSuchTag, unusedWord, wrongOperand, notOnce, undeclared, size, badContents, rightLength, blank, right, broken, atPlace, lowest}
+
+-- the verdict of a reason at a place
+unfoldable pub refusal : ℕ → ℕ → Verdict
+refusal k p = cond (eqb k 0) Accepted (Refused k p)
+
+-- 10, 1, 2 and 3, whose place is 0
+unfoldable pub headReason : ℕ → List ℕ → ℕ
+headReason words s =
+    cond (ltb words size)
+    10
+    (cond (ltb (length s) 10) 1 (cond (badContents s) 2 (cond (not (eqb (length s) (rightLength s))) 3 0)))
+
+-- the rules that are tested together
+abbrev pub codeRules : List Reason
+codeRules = wrongCode ∷ []
+
+abbrev pub nodeRules : List Reason
+nodeRules = noSuchTag ∷ unusedWord ∷ wrongOperand ∷ []
+
+abbrev pub useRules : List Reason
+useRules = notOnce ∷ []
+
+abbrev pub nameRules : List Reason
+nameRules = undeclared ∷ []
+
+-- what rules say at one place, and at the places below n
+unfoldable pub placeSays : List ℕ → List Reason → ℕ → Verdict
+placeSays s rs p = atPlace (broken size s) rs p
+
+unfoldable pub rulesSay : List ℕ → List Reason → ℕ → Verdict
+rulesSay s rs n = lowest (broken size s) rs n
+
+-- 6 and 7, of the roles of a node's words
+unfoldable pub wordsReason : List ℕ → ℕ → Role → Role → Role → Node → ℕ
+wordsReason s n p q r x =
+    cond (blank p (x .a) && blank q (x .b) && blank r (x .c))
+    (cond (right s n p (x .a) && right s n q (x .b) && right s n r (x .c)) 0 7)
+    6
+
+-- the kind of a child of node n; a child that isn't below n has none
+unfoldable pub childKind : List ℕ → ℕ → ℕ → Option Kind
+childKind s n w = cond (ltb w n) (kindOf (nodeAt s w .tag)) none
+
+-- a field index, a name in range
+abbrev pub indexRight : List ℕ → ℕ → Bool
+indexRight s w = leb 1 w && leb w (fieldsOf s)
+
+abbrev pub nameRight : List ℕ → ℕ → Bool
+nameRight s w = ltb w (namesOf s)

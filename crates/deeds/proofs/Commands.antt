@@ -1,0 +1,227 @@
+-- What a command does, tag by tag, in the shape of what the code knows: it reads a node, matches its tag and asks its
+-- expressions, its test or its name. One law for each return and for what each call requires. Assumes nothing.
+use Prim.Native.Nat.{ℕ, zero, suc, _+_, _<_, _≤_}
+use mathlib.Core.Path.{_≡_, refl, sym, ap, subst, _∙_}
+use mathlib.Core.Bool.{Bool, true, false}
+use mathlib.Core.Option.{Option, none, some}
+use mathlib.Core.List.{List}
+use native.Mathlib.Omega.{arith}
+use lib.ListN.{length, getD}
+use Rattle.rules.specs.declared.Node.{Node}
+use Rattle.rules.specs.declared.Chain.{Chain}
+use Rattle.rules.specs.declared.Chain.the-variants.{Empty, From}
+use Rattle.rules.specs.declared.Value.{Value}
+use Rattle.rules.specs.declared.Value.the-variants.{Null, Proc}
+use Rattle.rules.specs.declared.Effect.the-variants.{Keep, NewFrame}
+use Rattle.rules.specs.declared.Next.the-variants.{Ended, GoesOn, Repeats, Enters}
+use Rattle.rules.specs.declared.Stop.{Stop}
+use Rattle.rules.specs.declared.Stop.the-variants.{Faulted, NoRule}
+use Rattle.rules.specs.Syntax.{Exp, Cmd, var, call, malloc, assign, assignField, skip, while, if, atom, seq, par, proc, expNo, cmdNo}
+use Rattle.rules.specs.Image.{Kind, anExp, aTest, aCmd, tags, rowIn, rowOf, kindOf, nodesOf, nodeAt, treeAt, expAt, testAt, cmdAt, expOf, cmdOf}
+use Rattle.rules.specs.Good.{Good, Fit, RowFits}
+use Rattle.rules.specs.State.{Store, find}
+use Rattle.rules.specs.Eval.{Res, ok, fault, stuck, _>>=_, there, Closure, closure, asProc, Procedure, formal, stored, eval, test}
+use Rattle.rules.specs.Control.{Control}
+use Rattle.rules.specs.Step.{Deed, deed, newest, enter, calling, exec}
+use Rattle.rules.specs.Run.{scriptOf, procOf, procedureOf}
+use Rattle.rules.specs.Layout.{chainCode}
+use Rattle.rules.proofs.Trees.{cmd-var, cmd-call, cmd-malloc, cmd-assign, cmd-assignField, cmd-skip, cmd-while, cmd-if, cmd-atom, tree-proc}
+use Rattle.safety.specs.Safe.{single, Ready}
+use Rattle.words.specs.Lies.{Lies, Lying}
+use Rattle.words.proofs.Reading.{frame-count}
+use Rattle.image.specs.Read.{At}
+use Rattle.store.specs.declared.Found.{Found}
+use Rattle.store.specs.Says.{foundOf, FindSays}
+use Rattle.evallaws.specs.declared.Ev.{Ev}
+use Rattle.evallaws.specs.declared.Truth.{Truth}
+use Rattle.evallaws.specs.Answers.{resOf, truthOf}
+use Rattle.evallaws.specs.Says.{Evals, Tests}
+use Rattle.holds.specs.Holds.{Holds}
+use Rattle.holds.proofs.Fitting.{lies, seen-below, seen-code, command-no}
+use Rattle.deeds.specs.Deeds.{Out, Does, Not, Callee, Held, NotHeld, Target, Spot, NoSpot, Place, place, outOf, calleeOf, targetOf, assigning, allocating, choosing, callee, passing, targeting, putting, Standing, ExecSays}
+
+-- ---- a command that stands ready
+
+module _ (img ws : List ℕ) (n : ℕ) (ch : Chain) (h : Standing img ws n ch) where
+  pub standing-good : Good img
+  standing-good = h .holds .script .good
+
+  pub standing-node : n < nodesOf img
+  standing-node = seen-below img standing-good (h .store) (h .holds .safe .store) n ch (h .ready .seen)
+
+  pub standing-lying : Lying ws
+  standing-lying = record { store = h .store; control = h .control; rest = h .rest; lies = lies img (h .store) (h .control) (h .rest) ws (h .holds) }
+
+  pub standing-chain : chainCode ch ≤ getD ws 0 0
+  standing-chain =
+      let l = lies img (h .store) (h .control) (h .rest) ws (h .holds) in
+      omega (arith, seen-code img standing-good (h .store) (h .holds .safe .store) n ch (h .ready .seen), frame-count (h .store) (h .control) (h .rest) ws l)
+
+-- ---- a node of the script
+
+module _ (img : List ℕ) (n : ℕ) (x : Node) (w : At img n x) where
+  pub row-fits : Good img → n < nodesOf img → (k : ℕ) → x .tag ≡ k → RowFits img n (rowOf k) x
+  row-fits g h k t =
+      subst (λ (j : ℕ). RowFits img n (rowOf j) x) t
+      (subst (λ (y : Node). RowFits img n (rowOf (y .tag)) y) (sym (w .is)) (g .nodes n h))
+
+  pub tag-is : (k : ℕ) → x .tag ≡ k → nodeAt img n .tag ≡ k
+  tag-is k t = ap (λ (y : Node). y .tag) (sym (w .is)) ∙ t
+
+  -- ---- the expressions and tests of a command are nodes of their kind
+
+  module _ (g : Good img) (h : n < nodesOf img) where
+    pub call-a-node : x .tag ≡ 33 → x .a < nodesOf img
+    unfolding rowOf rowIn tags
+    call-a-node t = let f = row-fits g h 33 t in let l = f .0 .0 in omega arith
+
+    pub call-a-kind : x .tag ≡ 33 → kindOf (nodeAt img (x .a) .tag) ≡ some anExp
+    unfolding rowOf rowIn tags
+    call-a-kind t = row-fits g h 33 t .0 .1
+
+    pub call-b-node : x .tag ≡ 33 → x .b < nodesOf img
+    unfolding rowOf rowIn tags
+    call-b-node t = let f = row-fits g h 33 t in let l = f .1 .0 in omega arith
+
+    pub call-b-kind : x .tag ≡ 33 → kindOf (nodeAt img (x .b) .tag) ≡ some anExp
+    unfolding rowOf rowIn tags
+    call-b-kind t = row-fits g h 33 t .1 .1
+
+    pub assign-b-node : x .tag ≡ 35 → x .b < nodesOf img
+    unfolding rowOf rowIn tags
+    assign-b-node t = let f = row-fits g h 35 t in let l = f .1 .0 in omega arith
+
+    pub assign-b-kind : x .tag ≡ 35 → kindOf (nodeAt img (x .b) .tag) ≡ some anExp
+    unfolding rowOf rowIn tags
+    assign-b-kind t = row-fits g h 35 t .1 .1
+
+    pub field-a-node : x .tag ≡ 36 → x .a < nodesOf img
+    unfolding rowOf rowIn tags
+    field-a-node t = let f = row-fits g h 36 t in let l = f .0 .0 in omega arith
+
+    pub field-a-kind : x .tag ≡ 36 → kindOf (nodeAt img (x .a) .tag) ≡ some anExp
+    unfolding rowOf rowIn tags
+    field-a-kind t = row-fits g h 36 t .0 .1
+
+    pub field-b-node : x .tag ≡ 36 → x .b < nodesOf img
+    unfolding rowOf rowIn tags
+    field-b-node t = let f = row-fits g h 36 t in let l = f .1 .0 in omega arith
+
+    pub field-b-kind : x .tag ≡ 36 → kindOf (nodeAt img (x .b) .tag) ≡ some anExp
+    unfolding rowOf rowIn tags
+    field-b-kind t = row-fits g h 36 t .1 .1
+
+    pub field-c-node : x .tag ≡ 36 → x .c < nodesOf img
+    unfolding rowOf rowIn tags
+    field-c-node t = let f = row-fits g h 36 t in let l = f .2 .0 in omega arith
+
+    pub field-c-kind : x .tag ≡ 36 → kindOf (nodeAt img (x .c) .tag) ≡ some anExp
+    unfolding rowOf rowIn tags
+    field-c-kind t = row-fits g h 36 t .2 .1
+
+    pub while-a-node : x .tag ≡ 39 → x .a < nodesOf img
+    unfolding rowOf rowIn tags
+    while-a-node t = let f = row-fits g h 39 t in let l = f .0 .0 in omega arith
+
+    pub while-a-kind : x .tag ≡ 39 → kindOf (nodeAt img (x .a) .tag) ≡ some aTest
+    unfolding rowOf rowIn tags
+    while-a-kind t = row-fits g h 39 t .0 .1
+
+    pub if-a-node : x .tag ≡ 40 → x .a < nodesOf img
+    unfolding rowOf rowIn tags
+    if-a-node t = let f = row-fits g h 40 t in let l = f .0 .0 in omega arith
+
+    pub if-a-kind : x .tag ≡ 40 → kindOf (nodeAt img (x .a) .tag) ≡ some aTest
+    unfolding rowOf rowIn tags
+    if-a-kind t = row-fits g h 40 t .0 .1
+
+-- ---- each command
+
+module _ (img ws : List ℕ) (ch : Chain) (n : ℕ) (x : Node) (w : At img n x) (g : Good img) (h : n < nodesOf img) where
+  -- the command at n, by its tag
+  module _ (r : Out) where
+    pub does-skip : x .tag ≡ 37 → r ≡ Does Keep Ended → ExecSays img n ch r ws
+    unfolding exec
+    does-skip t e =
+        record { says = λ s o rest l. e ∙ ap (λ (c : Cmd). outOf (exec (scriptOf img) s ch c)) (sym (cmd-skip (nodeAt img) n (tag-is img n x w 37 t))) }
+
+    pub does-var : x .tag ≡ 32 → r ≡ Does (NewFrame (x .a) ch Null) (GoesOn (x .b) (From (getD ws 0 0))) → ExecSays img n ch r ws
+    unfolding exec newest rowOf rowIn tags cmdAt
+    does-var t e =
+        let f = row-fits img n x w g h 32 t in
+        let z : x ≡ nodeAt img n = w .is in
+        record {
+          says = λ s o rest l.
+              let c : cmdAt (nodeAt img) n ≡ var n (nodeAt img n .a) (cmdAt (nodeAt img) (nodeAt img n .b)) =
+              cmd-var (nodeAt img) n (tag-is img n x w 32 t) (subst (λ (y : Node). y .b < n) z (f .1 .0)) in
+              e
+              ∙ ap (λ (k : ℕ). Does (NewFrame (x .a) ch Null) (GoesOn (x .b) (From k))) (frame-count s o rest ws l)
+              ∙ ap (λ (y : Node). Does (NewFrame (y .a) ch Null) (GoesOn (y .b) (From (length (s .frames))))) z
+              ∙ ap (λ (k : ℕ). Does (NewFrame (nodeAt img n .a) ch Null) (GoesOn k (From (length (s .frames))))) (sym (command-no (nodeAt img) (nodeAt img n .b)))
+              ∙ ap (λ (c : Cmd). outOf (exec (scriptOf img) s ch c)) (sym c);
+        }
+
+    pub does-malloc : (f : Found) → x .tag ≡ 34 → FindSays (x .a) ch f ws → r ≡ outOf (allocating (foundOf f)) → ExecSays img n ch r ws
+    unfolding exec allocating
+    does-malloc f t q e =
+        let c : cmdAt (nodeAt img) n ≡ malloc n (x .a) =
+        subst (λ (y : Node). cmdAt (nodeAt img) n ≡ malloc n (y .a)) (sym (w .is)) (cmd-malloc (nodeAt img) n (tag-is img n x w 34 t)) in
+        record {
+          says = λ s o rest l.
+              e ∙ ap (λ (k : Option ℕ). outOf (allocating k)) (q s o rest l) ∙ ap (λ (c : Cmd). outOf (exec (scriptOf img) s ch c)) (sym c);
+        }
+
+    pub does-assign : (p : Ev) (f : Found) → x .tag ≡ 35 → Evals img ws ch (x .b) p → FindSays (x .a) ch f ws
+        → r ≡ outOf (assigning (resOf p) (foundOf f)) → ExecSays img n ch r ws
+    unfolding exec assigning rowOf rowIn tags
+    does-assign p f t v q e =
+        let fs = row-fits img n x w g h 35 t in
+        let c : cmdAt (nodeAt img) n ≡ assign n (x .a) (expAt (nodeAt img) (x .b)) =
+        subst (λ (y : Node). y .b < n → cmdAt (nodeAt img) n ≡ assign n (y .a) (expAt (nodeAt img) (y .b))) (sym (w .is)) (cmd-assign (nodeAt img) n (tag-is img n x w 35 t)) (fs .1 .0) in
+        record {
+          says = λ s o rest l.
+              e
+              ∙ ap (λ (k : Option ℕ). outOf (assigning (resOf p) k)) (q s o rest l)
+              ∙ ap (λ (k : Res Value). outOf (assigning k (find (s .frames) (x .a) ch))) (v .says s o rest l)
+              ∙ ap (λ (c : Cmd). outOf (exec (scriptOf img) s ch c)) (sym c);
+        }
+
+    pub does-while : (z : Truth) → x .tag ≡ 39 → Tests img ws ch (x .a) z → r ≡ outOf (choosing (truthOf z) (Repeats (x .b) n ch) Ended) → ExecSays img n ch r ws
+    unfolding exec choosing rowOf rowIn tags cmdAt
+    does-while z t v e =
+        let fs = row-fits img n x w g h 39 t in
+        let c : cmdAt (nodeAt img) n ≡ while n (testAt (nodeAt img) (x .a)) (cmdAt (nodeAt img) (x .b)) =
+        subst (λ (y : Node). y .a < n → y .b < n → cmdAt (nodeAt img) n ≡ while n (testAt (nodeAt img) (y .a)) (cmdAt (nodeAt img) (y .b))) (sym (w .is)) (cmd-while (nodeAt img) n (tag-is img n x w 39 t)) (fs .0 .0) (fs .1 .0) in
+        record {
+          says = λ s o rest l.
+              e
+              ∙ ap (λ (k : Res Bool). outOf (choosing k (Repeats (x .b) n ch) Ended)) (v .says s o rest l)
+              ∙ ap (λ (k : ℕ). outOf (choosing (test (scriptOf img) s ch (testAt (nodeAt img) (x .a))) (Repeats k n ch) Ended)) (sym (command-no (nodeAt img) (x .b)))
+              ∙ ap (λ (c : Cmd). outOf (exec (scriptOf img) s ch c)) (sym c);
+        }
+
+    pub does-if : (z : Truth) → x .tag ≡ 40 → Tests img ws ch (x .a) z → r ≡ outOf (choosing (truthOf z) (GoesOn (x .b) ch) (GoesOn (x .c) ch)) → ExecSays img n ch r ws
+    unfolding exec choosing rowOf rowIn tags cmdAt
+    does-if z t v e =
+        let fs = row-fits img n x w g h 40 t in
+        let c : cmdAt (nodeAt img) n ≡ if n (testAt (nodeAt img) (x .a)) (cmdAt (nodeAt img) (x .b)) (cmdAt (nodeAt img) (x .c)) =
+        subst (λ (y : Node). y .a < n → y .b < n → y .c < n → cmdAt (nodeAt img) n ≡ if n (testAt (nodeAt img) (y .a)) (cmdAt (nodeAt img) (y .b)) (cmdAt (nodeAt img) (y .c))) (sym (w .is)) (cmd-if (nodeAt img) n (tag-is img n x w 40 t)) (fs .0 .0) (fs .1 .0) (fs .2 .0) in
+        record {
+          says = λ s o rest l.
+              e
+              ∙ ap (λ (k : Res Bool). outOf (choosing k (GoesOn (x .b) ch) (GoesOn (x .c) ch))) (v .says s o rest l)
+              ∙ ap (λ (k : ℕ). outOf (choosing (test (scriptOf img) s ch (testAt (nodeAt img) (x .a))) (GoesOn k ch) (GoesOn (x .c) ch))) (sym (command-no (nodeAt img) (x .b)))
+              ∙ ap (λ (k : ℕ). outOf (choosing (test (scriptOf img) s ch (testAt (nodeAt img) (x .a))) (GoesOn (cmdNo (cmdOf (x .b) (treeAt (nodeAt img) (x .b)))) ch) (GoesOn k ch))) (sym (command-no (nodeAt img) (x .c)))
+              ∙ ap (λ (c : Cmd). outOf (exec (scriptOf img) s ch c)) (sym c);
+        }
+
+    pub does-atom : x .tag ≡ 42 → r ≡ Does Keep (Enters (x .a) ch) → ExecSays img n ch r ws
+    unfolding exec rowOf rowIn tags cmdAt
+    does-atom t e =
+        let fs = row-fits img n x w g h 42 t in
+        let c : cmdAt (nodeAt img) n ≡ atom n (cmdAt (nodeAt img) (x .a)) =
+        subst (λ (y : Node). y .a < n → cmdAt (nodeAt img) n ≡ atom n (cmdAt (nodeAt img) (y .a))) (sym (w .is)) (cmd-atom (nodeAt img) n (tag-is img n x w 42 t)) (fs .0 .0) in
+        record {
+          says = λ s o rest l.
+              e ∙ ap (λ (k : ℕ). Does Keep (Enters k ch)) (sym (command-no (nodeAt img) (x .a))) ∙ ap (λ (c : Cmd). outOf (exec (scriptOf img) s ch c)) (sym c);
+        }

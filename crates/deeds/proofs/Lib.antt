@@ -1,0 +1,5 @@
+pub mod Answers
+pub mod Commands
+pub mod Calls
+pub mod Targets
+pub mod Asking

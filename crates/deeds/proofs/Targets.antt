@@ -1,0 +1,174 @@
+-- Field assignment, which asks three times, and the tags that no command in control has. Assumes nothing.
+use Prim.Native.Nat.{ℕ, zero, suc, _+_, _<_, _≤_}
+use mathlib.Core.Path.{_≡_, refl, sym, ap, subst, _∙_}
+use mathlib.Core.Bool.{Bool, true, false}
+use mathlib.Core.Option.{Option, none, some}
+use mathlib.Core.List.{List}
+use native.Mathlib.Omega.{arith}
+use lib.ListN.{length, getD}
+use lib.Dec.{T}
+use Rattle.rules.specs.declared.Node.{Node}
+use Rattle.rules.specs.declared.Chain.{Chain}
+use Rattle.rules.specs.declared.Chain.the-variants.{Empty, From}
+use Rattle.rules.specs.declared.Value.{Value}
+use Rattle.rules.specs.declared.Value.the-variants.{Nothing, Null, Int, Field, Object, Proc, Fault}
+use Rattle.rules.specs.declared.Effect.the-variants.{Keep, NewFrame}
+use Rattle.rules.specs.declared.Next.the-variants.{Ended, GoesOn, Repeats, Enters}
+use Rattle.rules.specs.declared.Stop.{Stop}
+use Rattle.rules.specs.declared.Stop.the-variants.{Faulted, NoRule}
+use Rattle.rules.specs.Syntax.{Exp, Cmd, var, call, malloc, assign, assignField, skip, while, if, atom, seq, par, proc, expNo, cmdNo}
+use Rattle.rules.specs.Image.{Kind, anExp, aTest, aCmd, tags, rowIn, rowOf, kindOf, nodesOf, nodeAt, treeAt, expAt, testAt, cmdAt, expOf, cmdOf}
+use Rattle.rules.specs.Good.{Good, Fit, RowFits}
+use Rattle.rules.specs.State.{Store, find}
+use Rattle.rules.specs.Eval.{Res, ok, fault, stuck, _>>=_, there, Closure, closure, asProc, Procedure, formal, stored, eval, test}
+use Rattle.rules.specs.Control.{Control}
+use Rattle.rules.specs.Step.{Deed, deed, newest, enter, calling, exec}
+use Rattle.rules.specs.Run.{scriptOf, procOf, procedureOf}
+use Rattle.rules.specs.Layout.{chainCode}
+use Rattle.rules.proofs.Trees.{cmd-var, cmd-call, cmd-malloc, cmd-assign, cmd-assignField, cmd-skip, cmd-while, cmd-if, cmd-atom, tree-proc}
+use Rattle.safety.specs.Safe.{single, Ready}
+use Rattle.words.specs.Lies.{Lies, Lying}
+use Rattle.words.proofs.Reading.{frame-count}
+use Rattle.image.specs.Read.{At}
+use Rattle.store.specs.declared.Found.{Found}
+use Rattle.store.specs.Says.{foundOf, FindSays}
+use Rattle.evallaws.specs.declared.Ev.{Ev}
+use Rattle.evallaws.specs.declared.Truth.{Truth}
+use Rattle.evallaws.specs.Answers.{resOf, truthOf}
+use Rattle.evallaws.specs.Says.{Evals, Tests}
+use Rattle.holds.specs.Holds.{Holds}
+use Rattle.holds.proofs.Fitting.{lies, seen-below, seen-code, command-no}
+use Rattle.deeds.specs.Deeds.{Out, Does, Not, Callee, Held, NotHeld, Target, Spot, NoSpot, Place, place, outOf, calleeOf, targetOf, assigning, allocating, choosing, callee, passing, targeting, putting, Standing, ExecSays}
+use Rattle.rules.specs.Syntax.{noCmd}
+use Rattle.rules.specs.Image.{Tree, isNone, isExp, isTest, isCmd, Row, row, makeBy}
+use Rattle.rules.specs.declared.Effect.the-variants.{SetField}
+use Rattle.rules.specs.Eval.{asObject, asField}
+use Rattle.rules.proofs.Trees.{treeAt-is, lower, cmd-seq, cmd-par, tree-field, tree-int, tree-diff, tree-null, tree-ref, tree-select}
+use Rattle.rules.proofs.TreeKinds.{_&_, exp-cases, cmd-cases, row-kind, is-exp, is-test, is-cmd}
+use Rattle.safety.specs.Safe.{FitCmd, Real, IsProc, Bears}
+use Rattle.safety.specs.Fits.{Fine}
+use Rattle.safety.proofs.Fine.{fine-eval}
+use Rattle.deeds.proofs.Commands.{row-fits, tag-is}
+use Rattle.rules.specs.Syntax.{Test}
+
+-- ---- field assignment
+
+putIn : Res Value → Place → Res Deed
+putIn r (place o f) = putting r o f
+
+-- the target first, then the right side
+field-is : (n : ℕ) (p q r : Res Value)
+    → (p >>= λ v. q >>= λ w. asObject 3 n v >>= λ o. asField 4 n w >>= λ f. stored r >>= λ u. ok (deed (SetField o f u) Ended))
+    ≡ (targeting n p q >>= putIn r)
+unfolding targeting putting putIn _>>=_
+field-is n (ok v) (ok w) r = go (asObject 3 n v) (asField 4 n w)
+  where
+    go : (x : Res ℕ) (y : Res ℕ)
+        → (x >>= λ o. y >>= λ f. stored r >>= λ u. ok (deed (SetField o f u) Ended)) ≡ ((x >>= λ o. y >>= λ f. ok (place o f)) >>= putIn r)
+    go (ok o) (ok f) = refl
+    go (ok o) (fault k m) = refl
+    go (ok o) stuck = refl
+    go (fault k m) y = refl
+    go stuck y = refl
+field-is n (ok v) (fault k m) r = refl
+field-is n (ok v) stuck r = refl
+field-is n (fault k m) q r = refl
+field-is n stuck q r = refl
+
+spot-is : (z : Res Place) (o f : ℕ) → targetOf z ≡ Spot o f → z ≡ ok (place o f)
+spot-is (ok (place a b)) o f e = cc
+spot-is (fault k n) o f e = let z : _≡_ {A = ℕ} 0 1 = cc in absurd (omega arith)
+spot-is stuck o f e = let z : _≡_ {A = ℕ} 0 1 = cc in absurd (omega arith)
+
+no-spot : (z : Res Place) (k : Place → Res Deed) (q : Stop) → targetOf z ≡ NoSpot q → outOf (z >>= k) ≡ Not q
+unfolding _>>=_
+no-spot (ok (place a b)) k q e = let z : _≡_ {A = ℕ} 0 1 = cc in absurd (omega arith)
+no-spot (fault j n) k q e = let z : Faulted j n ≡ q = cc in ap Not z
+no-spot stuck k q e = let z : NoRule ≡ q = cc in ap Not z
+
+module _ (img ws : List ℕ) (ch : Chain) (n : ℕ) (x : Node) (w : At img n x) (g : Good img) (h : n < nodesOf img) (t : x .tag ≡ 36) where
+  field-command : cmdAt (nodeAt img) n ≡ assignField n (expAt (nodeAt img) (x .a)) (expAt (nodeAt img) (x .b)) (expAt (nodeAt img) (x .c))
+  unfolding rowOf rowIn tags
+  field-command =
+      let fs = row-fits img n x w g h 36 t in
+      subst (λ (y : Node). y .a < n → y .b < n → y .c < n → cmdAt (nodeAt img) n ≡ assignField n (expAt (nodeAt img) (y .a)) (expAt (nodeAt img) (y .b)) (expAt (nodeAt img) (y .c))) (sym (w .is)) (cmd-assignField (nodeAt img) n (tag-is img n x w 36 t)) (fs .0 .0) (fs .1 .0) (fs .2 .0)
+
+  module _ (p q : Ev) (v : Evals img ws ch (x .a) p) (u : Evals img ws ch (x .b) q) (k : Target) (e : k ≡ targetOf (targeting n (resOf p) (resOf q))) where
+    pub does-field : (o f : ℕ) (z : Ev) (r : Out) → k ≡ Spot o f → Evals img ws ch (x .c) z → r ≡ outOf (putting (resOf z) o f) → ExecSays img n ch r ws
+    unfolding exec putIn _>>=_
+    does-field o f z r i c j =
+        let sp : targeting n (resOf p) (resOf q) ≡ ok (place o f) = spot-is (targeting n (resOf p) (resOf q)) o f (sym e ∙ i) in
+        record {
+          says = λ s d rest l.
+              let a = expAt (nodeAt img) (x .a) in
+              let b = expAt (nodeAt img) (x .b) in
+              let y = expAt (nodeAt img) (x .c) in
+              let tg : targeting n (eval s ch a) (eval s ch b) ≡ ok (place o f) =
+              ap (λ (m : Res Value). targeting n m (eval s ch b)) (sym (v .says s d rest l)) ∙ ap (λ (m : Res Value). targeting n (resOf p) m) (sym (u .says s d rest l)) ∙ sp in
+              j
+              ∙ ap (λ (m : Res Value). outOf (putting m o f)) (c .says s d rest l)
+              ∙ ap (λ (m : Res Place). outOf (m >>= putIn (eval s ch y))) (sym tg)
+              ∙ ap outOf (sym (field-is n (eval s ch a) (eval s ch b) (eval s ch y)))
+              ∙ ap (λ (m : Cmd). outOf (exec (scriptOf img) s ch m)) (sym field-command);
+        }
+
+    pub does-not-field : (z : Stop) (r : Out) → k ≡ NoSpot z → r ≡ Not z → ExecSays img n ch r ws
+    unfolding exec
+    does-not-field z r i j =
+        record {
+          says = λ s d rest l.
+              let a = expAt (nodeAt img) (x .a) in
+              let b = expAt (nodeAt img) (x .b) in
+              let y = expAt (nodeAt img) (x .c) in
+              let tg : targetOf (targeting n (eval s ch a) (eval s ch b)) ≡ NoSpot z =
+              ap (λ (m : Res Value). targetOf (targeting n m (eval s ch b))) (sym (v .says s d rest l)) ∙ ap (λ (m : Res Value). targetOf (targeting n (resOf p) m)) (sym (u .says s d rest l)) ∙ sym e ∙ i in
+              j
+              ∙ sym (no-spot (targeting n (eval s ch a) (eval s ch b)) (putIn (eval s ch y)) z tg)
+              ∙ ap outOf (sym (field-is n (eval s ch a) (eval s ch b) (eval s ch y)))
+              ∙ ap (λ (m : Cmd). outOf (exec (scriptOf img) s ch m)) (sym field-command);
+        }
+
+-- ---- no other tag
+
+-- a command part is a command, and neither a sequence nor a parallel
+single-kind : (node : ℕ → Node) (n : ℕ) → T (single (cmdAt node n)) → kindOf (node n .tag) ≡ some aCmd
+unfolding cmdAt cmdOf single makeBy
+single-kind node n h = go (kindOf (node n .tag)) refl
+  where
+    go : (k : Option Kind) → kindOf (node n .tag) ≡ k → kindOf (node n .tag) ≡ some aCmd
+    go (some aCmd) e = e
+    go (some anExp) e = absurd (subst (λ (t : Tree). T (single (cmdOf n t))) (is-exp node n e) h)
+    go (some aTest) e = absurd (subst (λ (t : Tree). T (single (cmdOf n t))) (is-test node n e) h)
+    go none e = absurd (subst (λ (t : Tree). T (single (cmdOf n t))) (treeAt-is node n ∙ row-none (rowOf (node n .tag)) refl) h)
+      where
+        row-none : (r : Option Row) → rowOf (node n .tag) ≡ r → makeBy (lower node n) n r (node n) ≡ isNone
+        row-none none i = refl
+        row-none (some r) i =
+            let k = row-kind (node n .tag) r i in
+            let z : _≡_ {A = Option Kind} none (some (k .0)) = sym e ∙ k .1 in
+            let y : _≡_ {A = ℕ} 0 1 = cc in
+            absurd (omega arith)
+
+module _ (img ws : List ℕ) (ch : Chain) (n : ℕ) (x : Node) (w : At img n x) (g : Good img) (h : n < nodesOf img) (st : Standing img ws n ch) where
+  is-single : T (single (cmdAt (nodeAt img) n))
+  unfolding scriptOf cmdAt
+  is-single = st .ready .alone
+
+  pub does-none : (r : Out) → (x .tag ≡ 32 → ⊥) → (x .tag ≡ 33 → ⊥) → (x .tag ≡ 34 → ⊥) → (x .tag ≡ 35 → ⊥) → (x .tag ≡ 36 → ⊥) → (x .tag ≡ 37 → ⊥)
+      → (x .tag ≡ 39 → ⊥) → (x .tag ≡ 40 → ⊥) → (x .tag ≡ 42 → ⊥) → ExecSays img n ch r ws
+  unfolding rowOf rowIn tags single
+  does-none r a b c d e f i j k =
+      absurd
+      (cmd-cases (λ t. x .tag ≡ t → ⊥)
+      (a & b & c & d & e & f
+      & (λ t. let fs = row-fits img n x w g h 38 t in
+      subst (λ (m : Cmd). T (single m))
+      (subst (λ (y : Node). y .a < n → y .b < n → cmdAt (nodeAt img) n ≡ seq n (cmdAt (nodeAt img) (y .a)) (cmdAt (nodeAt img) (y .b))) (sym (w .is)) (cmd-seq (nodeAt img) n (tag-is img n x w 38 t)) (fs .0 .0) (fs .1 .0))
+      is-single)
+      & i & j
+      & (λ t. let fs = row-fits img n x w g h 41 t in
+      subst (λ (m : Cmd). T (single m))
+      (subst (λ (y : Node). y .a < n → y .b < n → cmdAt (nodeAt img) n ≡ par n (cmdAt (nodeAt img) (y .a)) (cmdAt (nodeAt img) (y .b))) (sym (w .is)) (cmd-par (nodeAt img) n (tag-is img n x w 41 t)) (fs .0 .0) (fs .1 .0))
+      is-single)
+      & k & tt)
+      (nodeAt img n .tag) (single-kind (nodeAt img) n is-single) (ap (λ (y : Node). y .tag) (w .is)))

@@ -1,0 +1,3 @@
+pub mod Fitting
+pub mod Looping
+pub mod Whole

@@ -1,0 +1,17 @@
+-- Tests taken apart: what two of them joined say of each. Assumes nothing.
+use mathlib.Core.Path.{_≡_, refl}
+use mathlib.Core.Bool.{Bool, true, false, true≢false, false≢true, _&&_, _||_}
+
+pub and-both : (a b : Bool) → (a && b) ≡ true → (a ≡ true) × (b ≡ true)
+and-both true b e = (refl, e)
+and-both false b e = absurd (false≢true e)
+
+pub or-neither : (a b : Bool) → (a || b) ≡ false → (a ≡ false) × (b ≡ false)
+or-neither true b e = absurd (true≢false e)
+or-neither false b e = (refl, e)
+
+pub or-left : (a b : Bool) → (a || b) ≡ false → a ≡ false
+or-left a b e = or-neither a b e .0
+
+pub or-right : (a b : Bool) → (a || b) ≡ false → b ≡ false
+or-right a b e = or-neither a b e .1

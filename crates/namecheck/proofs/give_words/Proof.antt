@@ -1,0 +1,25 @@
+-- `namecheck::give_words` meets its contract.
+-- Assumes nothing.
+use mathlib.Core.Path.{_∙_}
+use borrow.Author.Needs.{needs}
+use Rattle.namecheck.proofs.give_words.Statement.{statement}
+use Rattle.namecheck.proofs.give_words.Tie as tie
+
+give-requires : tie.Need-give-requires
+give-requires c κs = search needs
+
+give-requires-2 : tie.Need-give-requires-2
+give-requires-2 c κs = search needs
+
+give-requires-3 : tie.Need-give-requires-3
+give-requires-3 c κs = search needs
+
+same-length : tie.Need-same-length
+same-length c = search needs
+
+returns : tie.Need-returns
+returns c = c .before .before .give3 .ensures ∙ rw (c .before .before .before .before .before .before .give2 .ensures, c .before .before .before .before .before .before .before .before .before .before .give .ensures)
+
+pub give-words-spec : {M : Type 1} → statement M
+give-words-spec =
+    tie.close (tie.spec give-requires give-requires-2 give-requires-3 same-length returns)

@@ -1,0 +1,215 @@
+// Rule 9 (document 01, "Refused scripts"): a name used where it isn't declared. A loop from the last node down: when a
+// node is reached, its visible names are known, and it hands them to its children, with the name that it declares.
+// Names are 0 to 127, so those of a node are two words of 64 bits. The lowest node that strays is the last one found.
+
+use image::Operand;
+use image::Shape;
+use rules::Node;
+use rules::Verdict;
+ghost use mathlib.Core.Path.{_≡_};
+ghost use mathlib.Core.Bool.{cond};
+ghost use mathlib.Core.List.{_∷_};
+ghost use Prim.Native.Nat.{_+_, _<_};
+ghost use lib.ListN.{length, set};
+ghost use Rattle.rules.specs.declared.Verdict.the-variants.{Refused};
+ghost use Rattle.rules.specs.Image.{nodesOf};
+ghost use Rattle.rules.specs.Scope.{Names, has};
+ghost use Rattle.image.specs.Tags.{roleIs};
+ghost use Rattle.checklaws.specs.Pieces.{nameRules, rulesSay};
+ghost use Rattle.checklaws.specs.Hands.{Formed, strayWord, growWord, strayAt};
+ghost use Rattle.checklaws.specs.Bits.{bit, Adds, Shows, NameFits, given, givenAll, Shown, Visited};
+
+// The visible names of a node: bit x of lo is name x, bit x of hi is name 64 + x.
+pub struct Held {
+    pub lo: u64,
+    pub hi: u64,
+}
+
+fn has_bit(w: u64, x: usize) -> bool
+    requires { ⌜ x < 64 ⌝ }
+    ensures { λ r. ⌜ r ≡ bit w x ⌝ }
+{
+    (w >> x) % 2 == 1
+}
+
+fn with_bit(w: u64, x: usize) -> u64
+    requires { ⌜ x < 64 ⌝ }
+    ensures { λ r. ⌜ Adds w x r ⌝ }
+{
+    if has_bit(w, x) {
+        return w;
+    }
+    w + (1u64 << x)
+}
+
+fn seen(v: Held, x: usize) -> bool
+    requires { ⌜ x < 128 ⌝ }
+    ensures { λ r. ⌜ ((Γ : Names) → Shows (v .lo) (v .hi) Γ → r ≡ has x Γ) ⌝ }
+{
+    let lo = v.lo;
+    let hi = v.hi;
+    if x < 64 {
+        return has_bit(lo, x);
+    }
+    has_bit(hi, x - 64)
+}
+
+fn also(v: Held, x: usize) -> Held
+    requires { ⌜ x < 128 ⌝ }
+    ensures { λ r. ⌜ ((Γ : Names) → Shows (v .lo) (v .hi) Γ → Shows (r .lo) (r .hi) (x ∷ Γ)) ⌝ }
+{
+    let lo = v.lo;
+    let hi = v.hi;
+    if x < 64 {
+        let l = with_bit(lo, x);
+        return Held { lo: l, hi };
+    }
+    let h = with_bit(hi, x - 64);
+    Held { lo, hi: h }
+}
+
+// Does this word use a name that isn't visible?
+fn stray(p: Operand, w: usize, v: Held) -> bool
+    requires { ⌜ NameFits (roleIs p) w ⌝ }
+    ensures { λ r. ⌜ ((Γ : Names) → Shows (v .lo) (v .hi) Γ → r ≡ strayWord Γ (roleIs p) w) ⌝ }
+{
+    match p {
+        Operand::Unused => false,
+        Operand::Index => false,
+        Operand::Half => false,
+        Operand::Uses => !seen(v, w),
+        Operand::Binds => false,
+        Operand::ChildExp => false,
+        Operand::ChildTest => false,
+        Operand::ChildCmd => false,
+    }
+}
+
+// The visible names, with the one that this word declares.
+fn grown(p: Operand, w: usize, v: Held) -> Held
+    requires { ⌜ NameFits (roleIs p) w ⌝ }
+    ensures { λ r. ⌜ ((Γ : Names) → Shows (v .lo) (v .hi) Γ → Shows (r .lo) (r .hi) (growWord Γ (roleIs p) w)) ⌝ }
+{
+    match p {
+        Operand::Unused => v,
+        Operand::Index => v,
+        Operand::Half => v,
+        Operand::Uses => v,
+        Operand::Binds => also(v, w),
+        Operand::ChildExp => v,
+        Operand::ChildTest => v,
+        Operand::ChildCmd => v,
+    }
+}
+
+fn put(t: &mut [u64], w: usize, v: u64)
+    ensures { λ _. ⌜ now (t .exit) ≡ set (now (t .entry)) w v ⌝ }
+{
+    if w < t.len() {
+        t[w] = v;
+    }
+}
+
+// A child is given v.
+fn give(t: &mut [u64], p: Operand, w: usize, v: u64)
+    ensures { λ _. ⌜ now (t .exit) ≡ given (roleIs p) w v (now (t .entry)) ⌝ }
+{
+    match p {
+        Operand::Unused => {}
+        Operand::Index => {}
+        Operand::Half => {}
+        Operand::Uses => {}
+        Operand::Binds => {}
+        Operand::ChildExp => put(t, w, v),
+        Operand::ChildTest => put(t, w, v),
+        Operand::ChildCmd => put(t, w, v),
+    }
+}
+
+fn give_words(t: &mut [u64], x: Node, p: Operand, q: Operand, r: Operand, v: u64)
+    ensures { λ _. ⌜ now (t .exit) ≡ givenAll (roleIs p) (roleIs q) (roleIs r) x v (now (t .entry)) ⌝ }
+{
+    let a = x.a;
+    let b = x.b;
+    let c = x.c;
+    give(t, p, a, v);
+    give(t, q, b, v);
+    give(t, r, c, v);
+}
+
+fn visit_words(
+    lo: &mut [u64],
+    hi: &mut [u64],
+    n: usize,
+    x: Node,
+    p: Operand,
+    q: Operand,
+    r: Operand,
+) -> bool
+    requires { ⌜ (n < length (now lo)) × (n < length (now hi)) ⌝ }
+    requires { ⌜ NameFits (roleIs p) (x .a) ⌝ }
+    ensures { λ y. ⌜ Visited (roleIs p) (roleIs q) (roleIs r) x n (now (lo .entry)) (now (hi .entry)) (now (lo .exit)) (now (hi .exit)) y ⌝ }
+{
+    let v = Held {
+        lo: lo[n],
+        hi: hi[n],
+    };
+    let a = x.a;
+    let bad = stray(p, a, v);
+    let g = grown(p, a, v);
+    let l = g.lo;
+    let h = g.hi;
+    give_words(lo, x, p, q, r, l);
+    give_words(hi, x, p, q, r, h);
+    bad
+}
+
+// Node n hands its names down; does it stray?
+fn visit(img: &[u8], lo: &mut [u64], hi: &mut [u64], n: usize) -> bool
+    requires { ⌜ Formed (now img) ⌝ }
+    requires { ⌜ n < nodesOf (now img) ⌝ }
+    requires { ⌜ Shown (now img) (n + 1) (now lo) (now hi) ⌝ }
+    ensures { λ r. ⌜ (r ≡ strayAt (now (img .entry)) n) × Shown (now (img .entry)) n (now (lo .exit)) (now (hi .exit)) ⌝ }
+{
+    let x = image::read(img, n);
+    let tag = x.tag;
+    let shape = image::operands(tag);
+    match shape {
+        Shape::NoTag => false,
+        Shape::Words(p, q, r) => visit_words(lo, hi, n, x, p, q, r),
+    }
+}
+
+fn lowered(bad: bool, n: usize, v: Verdict) -> Verdict
+    requires { ⌜ n < 65536 ⌝ }
+    ensures { λ r. ⌜ r ≡ cond bad (Refused 9 n) v ⌝ }
+{
+    if bad {
+        return Verdict::Refused(9, n as u32);
+    }
+    v
+}
+
+fn from_last(img: &[u8], lo: &mut [u64], hi: &mut [u64]) -> Verdict
+    requires { ⌜ Formed (now img) ⌝ }
+    requires { ⌜ Shown (now img) (nodesOf (now img)) (now lo) (now hi) ⌝ }
+    ensures { λ r. ⌜ r ≡ rulesSay (now (img .entry)) nameRules (nodesOf (now (img .entry))) ⌝ }
+{
+    let mut n = image::nodes(img);
+    let mut v = Verdict::Accepted;
+    while 0 < n {
+        n -= 1;
+        let bad = visit(img, lo, hi, n);
+        v = lowered(bad, n, v);
+    }
+    v
+}
+
+pub fn all_names(img: &[u8]) -> Verdict
+    requires { ⌜ Formed (now img) ⌝ }
+    ensures { λ r. ⌜ r ≡ rulesSay (now (img .entry)) nameRules (nodesOf (now (img .entry))) ⌝ }
+{
+    let mut lo = [0u64; 2048];
+    let mut hi = [0u64; 2048];
+    from_last(img, &mut lo, &mut hi)
+}

@@ -1,0 +1,3 @@
+pub mod Passing
+pub mod Editing
+pub mod Places

@@ -1,0 +1,142 @@
+-- The invariant of demand 3 isn't vacuous. Worked cases of document 01 are accepted, by computing, and made of bytes; so
+-- they are safe at every moment, and the state of three such moments is written out. And `Safe` is false of any state
+-- that has a chain with no such frame, an object with no such number, or two atoms entered side by side.
+-- Assumes nothing.
+use Prim.Native.Nat.{ℕ, zero, suc, _<_, _≤_}
+use mathlib.Core.Path.{_≡_, refl, sym, subst}
+use mathlib.Core.Bool.{Bool, true, false, _&&_}
+use mathlib.Core.Option.{Option, none, some}
+use mathlib.Core.List.{List, [], _∷_}
+use native.Mathlib.Omega.{arith}
+use lib.ListN.{length, getD, getElem?, replicate}
+use lib.Dec.{T, ltb, ltb→lt}
+use Rattle.rules.specs.declared.Chain.the-variants.{Empty, From}
+use Rattle.rules.specs.declared.Value.the-variants.{Int, Object, Proc}
+use Rattle.rules.specs.declared.Frame.{Frame}
+use Rattle.rules.specs.declared.Verdict.the-variants.{Accepted}
+use Rattle.rules.specs.Refusals.{size, check}
+use Rattle.rules.specs.Published.{Bytes}
+use Rattle.rules.specs.State.{Store, empty, mostParts}
+use Rattle.rules.specs.Eval.{Script}
+use Rattle.rules.specs.Control.{Control, command, followed, beside, entered, parts, atomIn}
+use Rattle.rules.specs.Step.{miniOO}
+use Rattle.rules.specs.Run.{scriptOf, rootOf, runScript}
+use Rattle.rules.specs.Paper.{frame}
+use Rattle.rules.specs.Opens.{opens}
+use Rattle.rules.specs.Cases.{recursive, inAtom, ownStacks}
+use Rattle.safety.specs.Safe.{FitCmd, Real, Safe}
+use Rattle.safety.specs.Reaches.{begins}
+use Rattle.safety.proofs.ReachesMoments.{run-moment}
+use Rattle.safety.proofs.Demand3.{At, always-safe}
+
+-- ---- a list of bytes, by computing
+
+unfoldable allBytes : List ℕ → Bool
+allBytes [] = true
+allBytes (b ∷ s) = ltb b 256 && allBytes s
+
+bytes-if : (s : List ℕ) → T (allBytes s) → Bytes s
+unfolding allBytes
+bytes-if [] h zero = omega arith
+bytes-if [] h (suc i) = omega arith
+bytes-if (b ∷ s) h i = go (ltb b 256) refl h i (λ k j. bytes-if s k j)
+  where
+    go : (x : Bool) → ltb b 256 ≡ x → T (x && allBytes s) → (i : ℕ) → (T (allBytes s) → Bytes s) → getD (b ∷ s) i 0 < 256
+    go true e k zero f = ltb→lt b 256 (subst T (sym e) tt)
+    go true e k (suc i) f = f k i
+    go false e k i f = absurd k
+
+-- ---- an accepted script is safe in the state that any choices leave
+
+module _ (bytes : List ℕ) (are-bytes : Bytes bytes) (accepted : check size bytes ≡ Accepted) where
+  pub left-safe : parts (begins (miniOO (scriptOf bytes)) (rootOf bytes)) ≤ mostParts
+      → (choices : List ℕ)
+      → Safe (scriptOf bytes) (runScript bytes choices .store) (runScript bytes choices .control)
+  unfolding runScript
+  left-safe h choices =
+      always-safe size bytes are-bytes accepted choices (runScript bytes choices .store) (runScript bytes choices .control)
+      (run-moment (scriptOf bytes) (rootOf bytes) choices h)
+
+abbrev pub framesOnly : List Frame → Store
+framesOnly fs = record { frames = fs; objects = [] }
+
+-- ---- case d: `var p; {p = proc y: if y < 1 p = 1 else p(y - 1); p(1)}`, its choices all 0
+
+pub d-bytes : Bytes recursive
+unfolding opens allBytes
+d-bytes = bytes-if recursive tt
+
+pub d-accepted : check size recursive ≡ Accepted
+unfolding opens
+d-accepted = refl
+
+-- so every moment of its run is safe, for any choices
+pub d-always : (choices : List ℕ) (s : Store) (o : Option Control)
+    → At size recursive d-bytes d-accepted choices s o
+    → Safe (scriptOf recursive) s o
+d-always = always-safe size recursive d-bytes d-accepted
+
+d-safe : (choices : List ℕ) → Safe (scriptOf recursive) (runScript recursive choices .store) (runScript recursive choices .control)
+unfolding opens begins
+d-safe = left-safe recursive d-bytes d-accepted (omega arith)
+
+-- at the start: the root stands alone, with no frame
+pub d-start : Safe (scriptOf recursive) empty (some (command 17 Empty))
+unfolding opens begins
+d-start = d-safe []
+
+-- after six steps: the cell of p holds a procedure, two calls have made frames, and `p = 1` is left, in the second's chain
+pub d-sixth : Safe (scriptOf recursive) (framesOnly (frame 0 Empty (Proc 11 (From 0)) ∷ frame 1 (From 0) (Int 1) ∷ frame 1 (From 0) (Int 0) ∷ [])) (some (command 4 (From 2)))
+unfolding opens
+d-sixth = d-safe (replicate 6 0)
+
+-- after the last, the seventh: nothing is left in control
+pub d-last : Safe (scriptOf recursive) (framesOnly (frame 0 Empty (Int 1) ∷ frame 1 (From 0) (Int 1) ∷ frame 1 (From 0) (Int 0) ∷ [])) none
+unfolding opens
+d-last = d-safe (replicate 7 0)
+
+-- ---- case h: `var x; {{x = 0; atom({x = x - -1; x = x - -1})} || x = 0}`, after 0 0 0: the atom is entered
+
+pub h-bytes : Bytes inAtom
+unfolding opens allBytes
+h-bytes = bytes-if inAtom tt
+
+pub h-accepted : check size inAtom ≡ Accepted
+unfolding opens
+h-accepted = refl
+
+pub h-third : Safe (scriptOf inAtom) (framesOnly (frame 0 Empty (Int 0) ∷ [])) (some (beside (entered (followed (command 5 (From 0)) 9 (From 0))) (command 14 (From 0))))
+unfolding opens begins
+h-third = left-safe inAtom h-bytes h-accepted (omega arith) (0 ∷ 0 ∷ 0 ∷ [])
+
+-- ---- case k: `{var x; x = 1 || var x; x = 2}`: the root fits, by computing alone
+
+pub k-fits : FitCmd (scriptOf ownStacks) [] ((scriptOf ownStacks) .cmdAt 6)
+unfolding opens
+k-fits = (
+  (omega arith, refl),
+  ((omega arith, refl), omega arith, ((omega arith, refl), tt, (omega arith, omega arith))),
+  ((omega arith, refl), omega arith, ((omega arith, refl), tt, (omega arith, omega arith))),
+)
+
+-- ---- what breaks it
+
+module _ (sc : Script) (s : Store) where
+  -- a command whose chain is a frame that isn't there
+  pub no-such-frame : (n k : ℕ) → length (s .frames) ≤ k → Safe sc s (some (command n (From k))) → ⊥
+  no-such-frame n k h safe = let old : k < length (s .frames) = safe .control .placed .seen .chain .exists in omega arith
+
+  -- a cell that holds an object past the count
+  pub no-such-object : (o : Option Control) (k m : ℕ) (f : Frame)
+      → getElem? (s .frames) k ≡ some f
+      → f .cell ≡ Object m
+      → length (s .objects) ≤ m
+      → Safe sc s o
+      → ⊥
+  no-such-object o k m f e c h safe =
+      let old : m < length (s .objects) = subst (Real sc s) c (safe .store .frames k f e .cell) in omega arith
+
+  -- two atoms entered side by side
+  pub no-two-atoms : (l r : Control) → Safe sc s (some (beside (entered l) (entered r))) → ⊥
+  unfolding atomIn
+  no-two-atoms l r safe = safe .control .nested .0
