@@ -1,0 +1,1 @@
+// No code: all that we promise, on one page (proofs/Promises.antt).
