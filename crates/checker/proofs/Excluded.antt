@@ -1,0 +1,38 @@
+-- What the contract of `check` leaves out (document 01, "Refused scripts"): an answer that is always accepted, and one that
+-- is always a refusal. One script is accepted and one refused, by computing; and the contract leaves only one answer.
+-- Assumes nothing.
+use Prim.Native.Nat.{ℕ}
+use mathlib.Core.Path.{_≡_, refl, sym, _∙_}
+use mathlib.Core.List.{List, []}
+use native.Mathlib.Omega.{arith}
+use Rattle.rules.specs.declared.Verdict.{Verdict}
+use Rattle.rules.specs.declared.Verdict.the-variants.{Accepted, Refused}
+use Rattle.rules.specs.Refusals.{size, check}
+use Rattle.rules.specs.Opens.{opens}
+use Rattle.rules.specs.Cases.{skipAlone}
+
+-- what `check` of src/lib.rt ensures, of any function
+abbrev pub Meets : (ℕ → List ℕ → Verdict) → Type 0
+Meets f = (words : ℕ) (s : List ℕ) → f words s ≡ check words s
+
+pub accepts-one : check size skipAlone ≡ Accepted
+unfolding opens
+accepts-one = refl
+
+pub refuses-one : check size [] ≡ Refused 1 0
+unfolding opens
+refuses-one = refl
+
+differ : (k p : ℕ) → Accepted ≡ Refused k p → ⊥
+differ k p e = let z : _≡_ {A = ℕ} 0 1 = cc in absurd (omega arith)
+
+module _ (f : ℕ → List ℕ → Verdict) (meets : Meets f) where
+  pub not-all-accepted : ((words : ℕ) (s : List ℕ) → f words s ≡ Accepted) → ⊥
+  not-all-accepted all = differ 1 0 (sym (all size []) ∙ meets size [] ∙ refuses-one)
+
+  pub not-all-refused : (k p : ℕ → List ℕ → ℕ) → ((words : ℕ) (s : List ℕ) → f words s ≡ Refused (k words s) (p words s)) → ⊥
+  not-all-refused k p all = differ _ _ (sym accepts-one ∙ sym (meets size skipAlone) ∙ all size skipAlone)
+
+  -- any other that meets it answers the same
+  pub only-one : (g : ℕ → List ℕ → Verdict) → Meets g → (words : ℕ) (s : List ℕ) → f words s ≡ g words s
+  only-one g also words s = meets words s ∙ sym (also words s)
