@@ -1,0 +1,74 @@
+// The interpreter for programs in C and Rust: the public functions behind a C interface, with their answers as numbers
+// (include/flagcopper.h). Wrappers only. Nothing is asked of the caller but that a pointer and its length are memory of
+// the caller's; each answer, and every word of what is lent, is the definitions'.
+use rules::Answer;
+use rules::End;
+use rules::Stop;
+use rules::Verdict;
+ghost use mathlib.Core.Path.{_≡_};
+ghost use lib.ListN.{length};
+ghost use Rattle.rules.specs.declared.Answer.the-variants.{Ending};
+ghost use Rattle.rules.specs.declared.End.the-variants.{Stopped};
+ghost use Rattle.rules.specs.Refusals.{check as checkOf, size as sizeOf};
+ghost use Rattle.rules.specs.Run.{answerOf};
+ghost use Rattle.rules.specs.Lent.{wordsAfter, rowsAfter};
+ghost use Rattle.capi.specs.Told.{checkedOf, toldOf};
+
+// The answer of the check: number 0 is accepted, any other the reason.
+#[repr(C)]
+pub struct Checked {
+    pub number: u32,
+    pub place: u32,
+}
+
+// The answer of a run: a refusal and its place, or an end, its number and node, and the steps taken.
+#[repr(C)]
+pub struct Told {
+    pub refusal: u32,
+    pub place: u32,
+    pub end: u32,
+    pub number: u32,
+    pub node: u32,
+    pub steps: usize,
+}
+
+// ---- answers as numbers
+
+fn say(v: Verdict) -> Checked
+    ensures { λ r. ⌜ r ≡ checkedOf v ⌝ }
+{
+    match v {
+        Verdict::Accepted => Checked { number: 0, place: 0 },
+        Verdict::Refused(k, p) => Checked { number: k, place: p },
+    }
+}
+
+fn tell_stop(s: Stop, steps: usize) -> Told
+    ensures { λ r. ⌜ r ≡ toldOf (Ending (Stopped s) steps) ⌝ }
+{
+    match s {
+        Stop::Faulted(k, n) => Told { refusal: 0, place: 0, end: 2, number: k, node: n, steps: steps },
+        Stop::Full(k) => Told { refusal: 0, place: 0, end: 3, number: k, node: 0, steps: steps },
+        Stop::OutOfRange => Told { refusal: 0, place: 0, end: 5, number: 0, node: 0, steps: steps },
+        Stop::NoRule => Told { refusal: 0, place: 0, end: 0, number: 0, node: 0, steps: steps },
+    }
+}
+
+fn tell_end(e: End, steps: usize) -> Told
+    ensures { λ r. ⌜ r ≡ toldOf (Ending e steps) ⌝ }
+{
+    match e {
+        End::Done => Told { refusal: 0, place: 0, end: 1, number: 0, node: 0, steps: steps },
+        End::UsedUp => Told { refusal: 0, place: 0, end: 4, number: 0, node: 0, steps: steps },
+        End::Stopped(s) => tell_stop(s, steps),
+    }
+}
+
+fn tell(a: Answer) -> Told
+    ensures { λ r. ⌜ r ≡ toldOf a ⌝ }
+{
+    match a {
+        Answer::Refusal(k, p) => Told { refusal: k, place: p, end: 0, number: 0, node: 0, steps: 0 },
+        Answer::Ending(e, n) => tell_end(e, n),
+    }
+}
