@@ -72,3 +72,40 @@ fn tell(a: Answer) -> Told
         Answer::Ending(e, n) => tell_end(e, n),
     }
 }
+
+// ---- the public functions
+
+// The words that a run needs.
+#[no_mangle]
+pub extern "C" fn flagcopper_size() -> usize
+    ensures { λ r. ⌜ r ≡ sizeOf ⌝ }
+{
+    5378
+}
+
+// Number 0, or the first reason in the fixed order and its place; `workspace_words` is what a run will be lent.
+#[no_mangle]
+pub extern "C" fn flagcopper_check(script: &[u8], workspace_words: usize) -> Checked
+    ensures { λ r. ⌜ r ≡ checkedOf (checkOf «workspace_words» (now (script .entry))) ⌝ }
+{
+    say(interpreter::check(script, workspace_words))
+}
+
+// Check and run.
+#[no_mangle]
+pub extern "C" fn flagcopper_run(script: &[u8], choices: &[u8], workspace: &mut [u64]) -> Told
+    ensures { λ r. ⌜ r ≡ toldOf (answerOf (length (now (workspace .entry))) (now (script .entry)) (now (choices .entry))) ⌝ }
+    ensures { λ r. ⌜ now (workspace .exit) ≡ wordsAfter (now (script .entry)) (now (choices .entry)) (now (workspace .entry)) ⌝ }
+{
+    tell(interpreter::run(script, choices, workspace))
+}
+
+// Check and run, with a row of five numbers for each step taken, as many as fit whole.
+#[no_mangle]
+pub extern "C" fn flagcopper_trace(script: &[u8], choices: &[u8], workspace: &mut [u64], rows: &mut [u32]) -> Told
+    ensures { λ r. ⌜ r ≡ toldOf (answerOf (length (now (workspace .entry))) (now (script .entry)) (now (choices .entry))) ⌝ }
+    ensures { λ r. ⌜ now (workspace .exit) ≡ wordsAfter (now (script .entry)) (now (choices .entry)) (now (workspace .entry)) ⌝ }
+    ensures { λ r. ⌜ now (rows .exit) ≡ rowsAfter (length (now (workspace .entry))) (now (script .entry)) (now (choices .entry)) (now (rows .entry)) ⌝ }
+{
+    tell(interpreter::trace(script, choices, workspace, rows))
+}
