@@ -38,8 +38,14 @@ fn say(v: Verdict) -> Checked
     ensures { λ r. ⌜ r ≡ checkedOf v ⌝ }
 {
     match v {
-        Verdict::Accepted => Checked { number: 0, place: 0 },
-        Verdict::Refused(k, p) => Checked { number: k, place: p },
+        Verdict::Accepted => Checked {
+            number: 0,
+            place: 0,
+        },
+        Verdict::Refused(k, p) => Checked {
+            number: k,
+            place: p,
+        },
     }
 }
 
@@ -47,10 +53,38 @@ fn tell_stop(s: Stop, steps: usize) -> Told
     ensures { λ r. ⌜ r ≡ toldOf (Ending (Stopped s) steps) ⌝ }
 {
     match s {
-        Stop::Faulted(k, n) => Told { refusal: 0, place: 0, end: 2, number: k, node: n, steps: steps },
-        Stop::Full(k) => Told { refusal: 0, place: 0, end: 3, number: k, node: 0, steps: steps },
-        Stop::OutOfRange => Told { refusal: 0, place: 0, end: 5, number: 0, node: 0, steps: steps },
-        Stop::NoRule => Told { refusal: 0, place: 0, end: 0, number: 0, node: 0, steps: steps },
+        Stop::Faulted(k, n) => Told {
+            refusal: 0,
+            place: 0,
+            end: 2,
+            number: k,
+            node: n,
+            steps: steps,
+        },
+        Stop::Full(k) => Told {
+            refusal: 0,
+            place: 0,
+            end: 3,
+            number: k,
+            node: 0,
+            steps: steps,
+        },
+        Stop::OutOfRange => Told {
+            refusal: 0,
+            place: 0,
+            end: 5,
+            number: 0,
+            node: 0,
+            steps: steps,
+        },
+        Stop::NoRule => Told {
+            refusal: 0,
+            place: 0,
+            end: 0,
+            number: 0,
+            node: 0,
+            steps: steps,
+        },
     }
 }
 
@@ -58,8 +92,22 @@ fn tell_end(e: End, steps: usize) -> Told
     ensures { λ r. ⌜ r ≡ toldOf (Ending e steps) ⌝ }
 {
     match e {
-        End::Done => Told { refusal: 0, place: 0, end: 1, number: 0, node: 0, steps: steps },
-        End::UsedUp => Told { refusal: 0, place: 0, end: 4, number: 0, node: 0, steps: steps },
+        End::Done => Told {
+            refusal: 0,
+            place: 0,
+            end: 1,
+            number: 0,
+            node: 0,
+            steps: steps,
+        },
+        End::UsedUp => Told {
+            refusal: 0,
+            place: 0,
+            end: 4,
+            number: 0,
+            node: 0,
+            steps: steps,
+        },
         End::Stopped(s) => tell_stop(s, steps),
     }
 }
@@ -68,7 +116,14 @@ fn tell(a: Answer) -> Told
     ensures { λ r. ⌜ r ≡ toldOf a ⌝ }
 {
     match a {
-        Answer::Refusal(k, p) => Told { refusal: k, place: p, end: 0, number: 0, node: 0, steps: 0 },
+        Answer::Refusal(k, p) => Told {
+            refusal: k,
+            place: p,
+            end: 0,
+            number: 0,
+            node: 0,
+            steps: 0,
+        },
         Answer::Ending(e, n) => tell_end(e, n),
     }
 }
@@ -102,7 +157,12 @@ pub extern "C" fn flagcopper_run(script: &[u8], choices: &[u8], workspace: &mut 
 
 // Check and run, with a row of five numbers for each step taken, as many as fit whole.
 #[no_mangle]
-pub extern "C" fn flagcopper_trace(script: &[u8], choices: &[u8], workspace: &mut [u64], rows: &mut [u32]) -> Told
+pub extern "C" fn flagcopper_trace(
+    script: &[u8],
+    choices: &[u8],
+    workspace: &mut [u64],
+    rows: &mut [u32],
+) -> Told
     ensures { λ r. ⌜ r ≡ toldOf (answerOf (length (now (workspace .entry))) (now (script .entry)) (now (choices .entry))) ⌝ }
     ensures { λ r. ⌜ now (workspace .exit) ≡ wordsAfter (now (script .entry)) (now (choices .entry)) (now (workspace .entry)) ⌝ }
     ensures { λ r. ⌜ now (rows .exit) ≡ rowsAfter (length (now (workspace .entry))) (now (script .entry)) (now (choices .entry)) (now (rows .entry)) ⌝ }
