@@ -1,0 +1,141 @@
+/* Flagcopper: a proved interpreter for MiniOO scripts (target/staticlib/libcapi.a, made by `rt staticlib capi`).
+ *
+ * Three functions check a script, run it, and run it with a row for each step. Each answer, and every word of what the
+ * caller lends, is the definitions' for every input: any bytes, any choices, any workspace. They keep nothing between
+ * calls, allocate nothing and never stop the program.
+ *
+ * C can't say what the proofs rely on, so the caller owes it: a pointer isn't null, not even with length 0, and points
+ * to as many aligned elements as its length says; the workspace and the rows overlap nothing else that is passed. */
+#ifndef FLAGCOPPER_H
+#define FLAGCOPPER_H
+
+#include <stddef.h>
+#include <stdint.h>
+
+#ifdef __cplusplus
+extern "C" {
+#endif
+
+/* The words that a run needs; fewer are refused with 10. Words past these are neither read nor written. */
+#define FLAGCOPPER_SIZE 5378
+
+/* The words of a row: choice, node, tag, frames after the step, objects after the step. */
+#define FLAGCOPPER_ROW 5
+
+/* Zero means nothing in each of these. Places and nodes count from 0.
+ *
+ * refusal                                                          place
+ *   10  workspace shorter than the size; tested before all others  0
+ *    1  under 10 bytes                                             0
+ *    2  a start or count in the contents is wrong                  0
+ *    3  wrong length                                               0
+ *    4  attribute code zero or not above the one before            its position
+ *    5  no such tag                                                node
+ *    6  an unused word isn't zero                                  node
+ *    7  name or field index out of range, child not below its
+ *       parent, or child of the wrong kind                         node
+ *    8  a node other than the root not used exactly once, or the
+ *       root isn't a command                                       lowest such node
+ *    9  a name used where it isn't declared                        lowest such node
+ */
+typedef struct {
+    uint32_t number; /* 0: accepted */
+    uint32_t place;
+} flagcopper_checked;
+
+/* end                   number                                   node
+ *   1  done             0                                        0
+ *   2  fault            1 difference of other than integers      where it arose
+ *                       2 difference outside 32 signed bits
+ *                       3 selection or field assignment on no
+ *                         object
+ *                       4 selector isn't a field
+ *                       5 equal on unlike or unfit kinds
+ *                       6 less on other than integers
+ *                       7 call of other than a procedure
+ *   3  room             1 frames, 2 objects, 3 control           0
+ *   4  choices used up  0                                        0
+ *   5  choice out of    0                                        0
+ *      range
+ */
+typedef struct {
+    uint32_t refusal; /* 0: the script was accepted and ran; else all but place is 0 */
+    uint32_t place;
+    uint32_t end;
+    uint32_t number;
+    uint32_t node;
+    size_t steps;
+} flagcopper_told;
+
+/* FLAGCOPPER_SIZE, as the library has it. */
+size_t flagcopper_size(void);
+
+/* The first broken rule, for a run that will be lent so many words. */
+flagcopper_checked flagcopper_check(const uint8_t *script, size_t script_bytes, size_t workspace_words);
+
+/* Checks and runs. Each choice, one byte, picks a movable command by its position from 0; one is used for each step.
+ * A refusal leaves the workspace as it was; else its first FLAGCOPPER_SIZE words are the state, whatever they were. */
+flagcopper_told flagcopper_run(const uint8_t *script, size_t script_bytes, const uint8_t *choices, size_t count,
+                               uint64_t *workspace, size_t workspace_words);
+
+/* The same, with a row for each step taken, as many whole rows as fit; the rest of the rows isn't written. */
+flagcopper_told flagcopper_trace(const uint8_t *script, size_t script_bytes, const uint8_t *choices, size_t count,
+                                 uint64_t *workspace, size_t workspace_words, uint32_t *rows, size_t row_words);
+
+/* ---- the state, read back from the words of a run (docs/WORKSPACE.md)
+ *
+ * Words 0, 1 and 2 count frames, objects and parts of control; from word 3 on a word for each of 1,024 frames, from 1,027
+ * on 16 words for each of 256 objects, from 5,123 on a word for each of 255 parts. Frames and objects stand in the order
+ * in which they were made, parts in preorder. Unused words are zero. Ask only below the counts. */
+
+static inline uint64_t flagcopper_frames(const uint64_t *workspace) { return workspace[0]; }
+static inline uint64_t flagcopper_objects(const uint64_t *workspace) { return workspace[1]; }
+static inline uint64_t flagcopper_parts(const uint64_t *workspace) { return workspace[2]; }
+
+/* A value is a word of 35 bits: its kind and, above it, what the kind is of. */
+enum {
+    FLAGCOPPER_NULL = 1,
+    FLAGCOPPER_INT = 2,    /* its 32 bits: flagcopper_int */
+    FLAGCOPPER_FIELD = 3,  /* its index, from 1 */
+    FLAGCOPPER_OBJECT = 4, /* its number, from 0 */
+    FLAGCOPPER_PROC = 5,   /* flagcopper_node and flagcopper_chain */
+    FLAGCOPPER_FAULT = 6   /* its number, 1 to 7 */
+};
+
+/* The cell of a frame; its name; its outer frame: 0 for none, k + 1 for frame k. */
+static inline uint64_t flagcopper_cell(const uint64_t *workspace, size_t frame) {
+    return workspace[3 + frame] & (((uint64_t)1 << 35) - 1);
+}
+static inline uint32_t flagcopper_name(const uint64_t *workspace, size_t frame) {
+    return (uint32_t)(workspace[3 + frame] >> 35) & 255;
+}
+static inline uint32_t flagcopper_outer(const uint64_t *workspace, size_t frame) {
+    return (uint32_t)(workspace[3 + frame] >> 43);
+}
+
+/* A value of an object: `field` is an index from 1 to F. */
+static inline uint64_t flagcopper_value(const uint64_t *workspace, size_t object, size_t field) {
+    return workspace[1027 + 16 * object + (field - 1)];
+}
+
+/* A part of control, in preorder. Kind 1: a command with its chain; 2: a tree followed by this command, the tree next;
+ * 3: two trees side by side, both next; 4: an entered atom around a tree, the tree next. */
+static inline uint64_t flagcopper_part(const uint64_t *workspace, size_t part) { return workspace[5123 + part]; }
+
+/* Of a value or a part: its kind, and what stands above it. Of a procedure, or a part of kind 1 or 2: its node, and its
+ * chain, 0 for none and k + 1 for frame k with its outer frames. */
+static inline uint32_t flagcopper_kind(uint64_t word) { return (uint32_t)(word & 7); }
+static inline uint32_t flagcopper_payload(uint64_t word) { return (uint32_t)(word >> 3); }
+static inline uint32_t flagcopper_chain(uint64_t word) { return flagcopper_payload(word) & 2047; }
+static inline uint32_t flagcopper_node(uint64_t word) { return flagcopper_payload(word) >> 11; }
+
+/* The integer of a value of kind FLAGCOPPER_INT. */
+static inline int64_t flagcopper_int(uint64_t value) {
+    return (int64_t)flagcopper_payload(value) - (((int64_t)flagcopper_payload(value) >> 31) << 32);
+}
+
+#ifdef __cplusplus
+}
+#endif
+
+#endif
