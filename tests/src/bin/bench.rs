@@ -1,0 +1,153 @@
+//! Nanoseconds a step of each subject on the same scripts in one run, and the ratio to the independent interpreter; how they
+//! grow with the script; the check a node; and a whole short run with its start-up.
+//!
+//! A step's time is that of a run less that of the same run without choices, so that the check and the clearing of the
+//! workspace don't count. Each time is the least of several rounds. Without the feature `library` one column is missing.
+
+use flagcopper_tests::encode::*;
+use flagcopper_tests::image::Image;
+use flagcopper_tests::parse::script;
+use flagcopper_tests::subject::{subjects, Subject, SIZE};
+use std::hint::black_box;
+use std::time::{Duration, Instant};
+
+const ROUNDS: usize = 7;
+const ROUND: Duration = Duration::from_millis(20);
+
+/// The least nanoseconds of one call.
+fn least(mut call: impl FnMut()) -> f64 {
+    let mut round = || {
+        let (start, mut calls) = (Instant::now(), 0);
+        while start.elapsed() < ROUND {
+            call();
+            calls += 1;
+        }
+        start.elapsed().as_nanos() as f64 / f64::from(calls)
+    };
+    (0..ROUNDS).map(|_| round()).fold(f64::INFINITY, f64::min)
+}
+
+/// Keeps the compiler from leaving a call out.
+fn seen<T>(result: T) {
+    black_box(result);
+}
+
+struct Bench {
+    subjects: Vec<(&'static str, Box<dyn Subject>)>,
+    workspace: Vec<u64>,
+}
+
+impl Bench {
+    /// One line: the time of each subject for each of `count` things, and the ratio of the last to the first.
+    fn line(&mut self, what: &str, count: usize, mut time: impl FnMut(&dyn Subject, &mut [u64]) -> f64) {
+        let times: Vec<f64> =
+            self.subjects.iter().map(|(_, subject)| time(subject.as_ref(), &mut self.workspace)).collect();
+        print!("{what:<44}{count:>7}");
+        times.iter().for_each(|time| print!("{:>14.1}", time / count as f64));
+        if let [first, .., last] = times[..] {
+            print!("{:>9.3}", last / first);
+        }
+        println!();
+    }
+
+    fn steps(&mut self, what: &str, image: &Image, choices: &[u8]) {
+        let bytes = image.bytes();
+        let answers = self.subjects.iter().map(|(_, subject)| subject.run(&bytes, choices, &mut self.workspace));
+        let answers: Vec<_> = answers.collect();
+        let first = answers[0];
+        assert!(first.steps > 0 && answers.iter().all(|answer| *answer == first), "{what}: {answers:?}");
+        self.line(what, first.steps, |subject, workspace| {
+            let whole = least(|| seen(subject.run(&bytes, choices, workspace)));
+            let start = least(|| seen(subject.run(&bytes, &[], workspace)));
+            whole - start
+        });
+    }
+
+    fn check(&mut self, what: &str, image: &Image) {
+        let bytes = image.bytes();
+        self.line(what, image.nodes.len(), |subject, _| least(|| seen(subject.check(&bytes, SIZE))));
+    }
+
+    fn whole(&mut self, what: &str, image: &Image, choices: &[u8]) {
+        let bytes = image.bytes();
+        self.line(what, 1, |subject, workspace| least(|| seen(subject.run(&bytes, choices, workspace))));
+    }
+}
+
+/// `count` commands side by side, as a balanced tree.
+fn side_by_side(count: usize, command: &Branch) -> Branch {
+    if count < 2 {
+        return command.clone();
+    }
+    parallel(side_by_side(count / 2, command), side_by_side(count - count / 2, command))
+}
+
+fn in_turn(count: usize, command: &Branch) -> Branch {
+    (1..count).fold(command.clone(), |rest, _| sequence(command.clone(), rest))
+}
+
+/// A loop of so many rounds over name 0, which only its test and its end use.
+fn rounds(count: i32, body: Branch) -> Branch {
+    let down = assign(0, difference(variable(0), integer(1)));
+    let count_down = repeat(less(integer(0), variable(0)), sequence(body, down));
+    var(0, sequence(assign(0, integer(count)), count_down))
+}
+
+/// Reclasses objects, as the offices do: for each code a test and two field assignments, over 30 objects.
+fn migration() -> Image {
+    let class = || selection(variable(1), field(1));
+    let recode = |code: i32| {
+        let set = |index, value| field_assign(variable(1), field(index), value);
+        let both = sequence(set(2, integer(100 + code)), set(1, difference(class(), integer(1_000))));
+        choose(equal(class(), integer(code)), both, skip())
+    };
+    let codes = (1..7).fold(recode(0), |rest, code| sequence(recode(code), rest));
+    let object = sequence(malloc(1), field_assign(variable(1), field(1), integer(3)));
+    var(1, rounds(30, sequence(object, atom(codes)))).image(&[11, 12, 13], 2)
+}
+
+/// How a step's time grows: with the width of control, the depth of atoms, the length of a chain and of bodies compared.
+fn growing(bench: &mut Bench) {
+    let endless = || repeat(constant(true), skip());
+    for width in [1, 4, 16, 64, 85] {
+        let image = side_by_side(width, &endless()).image(&[], 0);
+        bench.steps(&format!("parallels, {width} wide, the first moves"), &image, &[0; 2_000]);
+        bench.steps(&format!("parallels, {width} wide, the last moves"), &image, &[width as u8 - 1; 2_000]);
+    }
+    for depth in [1, 8, 64, 250] {
+        let inside = (0..depth).fold(endless(), |inner, _| atom(inner));
+        bench.steps(&format!("a loop in {depth} atoms"), &inside.image(&[], 0), &[0; 2_000]);
+    }
+    for length in [1, 10, 100, 900] {
+        let inner = rounds(300, assign(1, integer(1)));
+        let chain = (0..length).fold(inner, |inner, name| var(if name + 1 == length { 1 } else { 2 }, inner));
+        bench.steps(&format!("a loop under a chain of {length}"), &chain.image(&[], 3), &[0; 3_000]);
+    }
+    for length in [1, 10, 100, 400] {
+        let body = in_turn(length, &skip());
+        let test = equal(proc(1, body.clone()), proc(1, body));
+        let image = rounds(300, choose(test, skip(), skip())).image(&[], 2);
+        bench.steps(&format!("comparing bodies of {} nodes", 2 * length - 1), &image, &[0; 3_000]);
+    }
+}
+
+fn main() {
+    let mut bench = Bench { subjects: subjects(), workspace: vec![0; SIZE] };
+    print!("{:<44}{:>7}", "nanoseconds a step, or each", "count");
+    bench.subjects.iter().for_each(|(name, _)| print!("{name:>14}"));
+    println!("{}", if bench.subjects.len() > 1 { "    ratio" } else { "" });
+    let zeros = [0; 5_000];
+    bench.steps("calls", &script("var p; {p = proc y: if y < 1 skip else p(y - 1); p(1000)}"), &zeros);
+    bench.steps("a counting loop", &script("var x; {x = 1000; while 0 < x x = x - 1}"), &zeros);
+    let fields = script("fields a 1, b 2: var x; {malloc(x); {x.a = 1000; while 0 < x.a {x.b = x.a; x.a = x.a - 1}}}");
+    bench.steps("field updates", &fields, &zeros);
+    bench.steps("objects", &script("fields a 1: var x; while true malloc(x)"), &zeros);
+    bench.steps(&format!("a migration of {} nodes", migration().nodes.len()), &migration(), &zeros);
+    growing(&mut bench);
+    for nodes in [10, 100, 1_000] {
+        bench.check(&format!("check a node, {} nodes", 2 * nodes - 1), &in_turn(nodes, &skip()).image(&[], 0));
+    }
+    bench.check("check a node, the migration", &migration());
+    bench.whole("a whole run of one step", &script("skip"), &[0]);
+    bench.whole("a whole run of the migration", &migration(), &zeros);
+}

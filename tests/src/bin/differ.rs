@@ -1,0 +1,75 @@
+//! Compares a subject with the independent interpreter on generated cases, and saves the first difference, shrunk.
+//!
+//! `differ --cases N --seed S [--from K] [--against WRONG]`, or `differ --replay FILE` for a saved case. The subject is the
+//! library, or with `--against` the independent interpreter with a wrong turn. It ends with 1 when a difference is found.
+
+use flagcopper_tests::compare::{difference, search};
+use flagcopper_tests::independent::{Independent, Wrong};
+use flagcopper_tests::shrink::{read, shrunk, written};
+use flagcopper_tests::subject::{subjects, Subject};
+use std::process::ExitCode;
+use std::time::{Duration, Instant};
+
+const EVERY: Duration = Duration::from_secs(10);
+
+fn option(name: &str) -> Option<String> {
+    let arguments: Vec<String> = std::env::args().collect();
+    let at = arguments.iter().position(|argument| argument == name)?;
+    Some(arguments.get(at + 1).unwrap_or_else(|| panic!("{name} wants a value")).clone())
+}
+
+fn number(name: &str, default: u64) -> u64 {
+    option(name).map_or(default, |value| value.parse().unwrap_or_else(|_| panic!("{name} wants a number")))
+}
+
+fn subject() -> (String, Box<dyn Subject>) {
+    match option("--against") {
+        Some(named) => {
+            let known = Wrong::ALL.into_iter().find(|wrong| format!("{wrong:?}") == named);
+            let wrong = known.unwrap_or_else(|| panic!("the wrong turns are {:?}", Wrong::ALL));
+            (named, Box::new(Independent::wrong(wrong)))
+        }
+        None => {
+            let library = subjects().into_iter().find(|(name, _)| *name == "library");
+            let (name, subject) =
+                library.expect("nothing to compare: build with --features library, or name a wrong turn");
+            (name.to_string(), subject)
+        }
+    }
+}
+
+fn main() -> ExitCode {
+    let (name, subject) = subject();
+    let right = Independent::right();
+    if let Some(file) = option("--replay") {
+        let text = std::fs::read_to_string(&file).unwrap_or_else(|error| panic!("{file}: {error}"));
+        let case = read(&text).unwrap_or_else(|| panic!("{file} holds no case"));
+        let how = difference(&right, subject.as_ref(), &case);
+        println!("{name}: {}", how.as_deref().unwrap_or("no difference"));
+        return ExitCode::from(u8::from(how.is_some()));
+    }
+    let (cases, seed, from) = (number("--cases", 100_000), number("--seed", 1), number("--from", 0));
+    println!("{name} against the independent interpreter, seed {seed}, {cases} cases from {from}");
+    let start = Instant::now();
+    let mut last = start;
+    let (tally, found) = search(&right, subject.as_ref(), seed, from..from + cases, |tally| {
+        if last.elapsed() >= EVERY {
+            last = Instant::now();
+            println!("case {}, {} steps, {} s", from + tally.cases as u64, tally.steps, start.elapsed().as_secs());
+        }
+    });
+    println!("{tally} {:.1} s", start.elapsed().as_secs_f64());
+    let Some(found) = found else {
+        println!("no difference");
+        return ExitCode::SUCCESS;
+    };
+    println!("case {}: {}", found.number, found.how);
+    let least = shrunk(&found.case, |case| difference(&right, subject.as_ref(), case).is_some());
+    let how = difference(&right, subject.as_ref(), &least).expect("shrinking keeps the difference");
+    let text = written(&least, &format!("{name}, seed {seed}, case {}, shrunk: {how}", found.number));
+    let directory = concat!(env!("CARGO_MANIFEST_DIR"), "/../target/differ");
+    let file = format!("{directory}/{name}-{seed}-{}.txt", found.number);
+    std::fs::create_dir_all(directory).and_then(|()| std::fs::write(&file, &text)).expect("the case can be saved");
+    println!("{text}saved to {file}");
+    ExitCode::FAILURE
+}

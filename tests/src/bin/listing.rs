@@ -1,0 +1,71 @@
+//! The listing program of document 01 on the independent interpreter: reads `script.img` and `choices.bin` here and prints.
+//!
+//! `listing --against PROGRAM --cases N --seed S` compares another listing program with it, byte for byte, each case in a
+//! directory of its own; some cases lack a file or have choices that are too long.
+
+use flagcopper_tests::generate::case;
+use flagcopper_tests::independent::listing::listing;
+use flagcopper_tests::random::Random;
+use std::path::Path;
+use std::process::{Command, ExitCode};
+
+fn here(directory: &Path) -> String {
+    let file = |name: &str| std::fs::read(directory.join(name)).ok();
+    listing(file("script.img").as_deref(), file("choices.bin").as_deref())
+}
+
+/// Puts the files of a case into the directory.
+fn laid_out(directory: &Path, seed: u64, number: u64) -> std::io::Result<()> {
+    let random = &mut Random::of_case(seed, number);
+    let mut case = case(random);
+    match random.below(20) {
+        0 => case.choices.resize(4_096, 0),
+        1 => case.choices.resize(4_097, 0),
+        _ => {}
+    }
+    for (name, bytes) in [("script.img", &case.script), ("choices.bin", &case.choices)] {
+        if random.once_in(40) {
+            std::fs::remove_file(directory.join(name)).or_else(|_| Ok::<(), std::io::Error>(()))?;
+        } else {
+            std::fs::write(directory.join(name), bytes)?;
+        }
+    }
+    Ok(())
+}
+
+fn compared(program: &str, cases: u64, seed: u64) -> std::io::Result<bool> {
+    let program = std::fs::canonicalize(program)?;
+    let directory = Path::new(env!("CARGO_MANIFEST_DIR")).join("../target/listings");
+    std::fs::create_dir_all(&directory)?;
+    for number in 0..cases {
+        laid_out(&directory, seed, number)?;
+        let given = Command::new(&program).current_dir(&directory).output()?;
+        let wanted = here(&directory);
+        if given.stdout != wanted.as_bytes() {
+            println!("case {number} of seed {seed} lies in {}; wanted:\n{wanted}", directory.display());
+            println!("given:\n{}", String::from_utf8_lossy(&given.stdout));
+            return Ok(false);
+        }
+    }
+    println!("{cases} listings of seed {seed} are the same");
+    Ok(true)
+}
+
+fn main() -> ExitCode {
+    let arguments: Vec<String> = std::env::args().skip(1).collect();
+    match arguments.iter().map(String::as_str).collect::<Vec<_>>()[..] {
+        [] => {
+            print!("{}", here(Path::new(".")));
+            ExitCode::SUCCESS
+        }
+        ["--against", program, "--cases", cases, "--seed", seed] => {
+            let (cases, seed) = (cases.parse().expect("a number of cases"), seed.parse().expect("a seed"));
+            let same = compared(program, cases, seed).expect("the program can be run");
+            ExitCode::from(u8::from(!same))
+        }
+        _ => {
+            eprintln!("listing [--against PROGRAM --cases N --seed S]");
+            ExitCode::FAILURE
+        }
+    }
+}

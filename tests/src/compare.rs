@@ -1,0 +1,136 @@
+//! The comparison: two subjects get the same case in memory that holds the same pattern, and must agree on verdict, answer,
+//! rows and every word of the workspace, those past its size included.
+
+use crate::generate::{case, Case};
+use crate::random::Random;
+use crate::subject::{Answer, Subject, Verdict, ROW};
+use std::collections::BTreeMap;
+use std::fmt;
+
+/// What a subject made of a case by one of the calls.
+#[derive(PartialEq, Eq)]
+struct Outcome {
+    answer: Answer,
+    workspace: Vec<u64>,
+    rows: Vec<u32>,
+}
+
+fn pattern(case: &Case, length: usize) -> impl Iterator<Item = u64> + '_ {
+    (0..length as u64).map(|place| case.pattern.rotate_left(place as u32 % 64) ^ place)
+}
+
+/// The outcome of a trace, or of a run, which must leave the rows alone.
+fn outcome(subject: &dyn Subject, case: &Case, with_rows: bool) -> Outcome {
+    let mut workspace: Vec<u64> = pattern(case, case.words).collect();
+    let mut rows: Vec<u32> = pattern(case, case.rows).map(|word| word as u32).collect();
+    let answer = if with_rows {
+        subject.trace(&case.script, &case.choices, &mut workspace, &mut rows)
+    } else {
+        subject.run(&case.script, &case.choices, &mut workspace)
+    };
+    Outcome { answer, workspace, rows }
+}
+
+/// The first difference between the reference and a subject on a case, in words.
+pub fn difference(reference: &dyn Subject, subject: &dyn Subject, case: &Case) -> Option<String> {
+    compared(reference, subject, case).1
+}
+
+fn compared(reference: &dyn Subject, subject: &dyn Subject, case: &Case) -> (Answer, Option<String>) {
+    let wanted = outcome(reference, case, true);
+    let verdict = Verdict { number: wanted.answer.refusal, place: wanted.answer.place };
+    let given = subject.check(&case.script, case.words);
+    if verdict != given {
+        return (wanted.answer, Some(format!("check: {given:?} in place of {verdict:?}")));
+    }
+    let traced = told_apart("trace", &wanted, &outcome(subject, case, true));
+    let found = traced.or_else(|| {
+        let ran = outcome(subject, case, false);
+        let without_rows = Outcome { rows: ran.rows.clone(), ..wanted };
+        told_apart("run", &without_rows, &ran)
+    });
+    (wanted.answer, found)
+}
+
+fn told_apart(call: &str, wanted: &Outcome, given: &Outcome) -> Option<String> {
+    if wanted.answer != given.answer {
+        return Some(format!("{call}: {:?} in place of {:?}", given.answer, wanted.answer));
+    }
+    if let Some(place) = first_other(&wanted.rows, &given.rows) {
+        let (row, word) = (place / ROW, place % ROW);
+        return Some(format!(
+            "{call}: row {row} word {word} is {} in place of {}",
+            given.rows[place], wanted.rows[place]
+        ));
+    }
+    let place = first_other(&wanted.workspace, &given.workspace)?;
+    let (word, right) = (given.workspace[place], wanted.workspace[place]);
+    Some(format!("{call}: workspace word {place} is {word:#x} in place of {right:#x}"))
+}
+
+fn first_other<T: PartialEq>(left: &[T], right: &[T]) -> Option<usize> {
+    left.iter().zip(right).position(|(a, b)| a != b)
+}
+
+/// How often each refusal and end was met, to see that the cases reach all of them.
+#[derive(Default)]
+pub struct Tally {
+    counts: BTreeMap<String, usize>,
+    pub cases: usize,
+    pub steps: usize,
+}
+
+impl Tally {
+    fn count(&mut self, answer: &Answer) {
+        let what = match (answer.refusal, answer.end) {
+            (0, 1) => "done".to_string(),
+            (0, 2) => format!("fault {}", answer.number),
+            (0, 3) => format!("room {}", answer.number),
+            (0, 4) => "used up".to_string(),
+            (0, _) => "out of range".to_string(),
+            (refusal, _) => format!("refusal {refusal}"),
+        };
+        *self.counts.entry(what).or_default() += 1;
+        self.cases += 1;
+        self.steps += answer.steps;
+    }
+
+    pub fn of(&self, what: &str) -> usize {
+        self.counts.get(what).copied().unwrap_or(0)
+    }
+}
+
+impl fmt::Display for Tally {
+    fn fmt(&self, f: &mut fmt::Formatter) -> fmt::Result {
+        write!(f, "{} cases, {} steps:", self.cases, self.steps)?;
+        self.counts.iter().try_for_each(|(what, count)| write!(f, " {what} {count},"))
+    }
+}
+
+/// A case on which the two differ, and how.
+pub struct Found {
+    pub number: u64,
+    pub case: Case,
+    pub how: String,
+}
+
+/// Compares on generated cases of the seed until they differ or the cases are used up; `progress` hears of each case.
+pub fn search(
+    reference: &dyn Subject,
+    subject: &dyn Subject,
+    seed: u64,
+    cases: std::ops::Range<u64>,
+    mut progress: impl FnMut(&Tally),
+) -> (Tally, Option<Found>) {
+    let mut tally = Tally::default();
+    for number in cases {
+        let case = case(&mut Random::of_case(seed, number));
+        let (answer, found) = compared(reference, subject, &case);
+        tally.count(&answer);
+        if let Some(how) = found {
+            return (tally, Some(Found { number, case, how }));
+        }
+        progress(&tally);
+    }
+    (tally, None)
+}

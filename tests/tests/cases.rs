@@ -1,0 +1,198 @@
+//! The scripts tried by hand (document 01, a to o) and the listing's example, on every subject.
+
+use flagcopper_tests::encode::{parallel, skip, Branch};
+use flagcopper_tests::image::Image;
+use flagcopper_tests::independent::listing::listing;
+use flagcopper_tests::parse::script;
+use flagcopper_tests::subject::{subjects, Answer, SIZE};
+
+const DONE: (u32, u32) = (1, 0);
+const USED_UP: (u32, u32) = (4, 0);
+const OUT_OF_RANGE: (u32, u32) = (5, 0);
+
+fn int(number: i32) -> u64 {
+    2 + 8 * u64::from(number as u32)
+}
+
+struct Run {
+    answer: Answer,
+    workspace: Vec<u64>,
+}
+
+impl Run {
+    fn cell(&self, frame: usize) -> u64 {
+        self.workspace[3 + frame] % (1 << 35)
+    }
+}
+
+/// Runs the script on everyone and wants this end with its number, and these steps, frames and objects.
+fn wants(image: &Image, choices: &[u8], end: (u32, u32), steps: usize, frames: u64, objects: u64) -> Vec<Run> {
+    let run = |(name, subject): (&str, Box<dyn flagcopper_tests::subject::Subject>)| {
+        let mut workspace = vec![u64::MAX; SIZE];
+        let answer = subject.run(&image.bytes(), choices, &mut workspace);
+        assert_eq!(answer.refusal, 0, "{name} refuses");
+        assert_eq!((answer.end, answer.number, answer.steps), (end.0, end.1, steps), "{name}");
+        assert_eq!(workspace[..2], [frames, objects], "{name}: frames and objects");
+        Run { answer, workspace }
+    };
+    subjects().into_iter().map(run).collect()
+}
+
+fn zeros(count: usize) -> Vec<u8> {
+    vec![0; count]
+}
+
+#[test]
+fn a_b_c_skip_alone() {
+    let image = script("skip");
+    wants(&image, &[0], DONE, 1, 0, 0);
+    wants(&image, &[], USED_UP, 0, 0, 0);
+    wants(&image, &[1], OUT_OF_RANGE, 0, 0, 0);
+}
+
+#[test]
+fn d_recursive_procedure() {
+    let image = script("var p; {p = proc y: if y < 1 p = 1 else p(y - 1); p(1)}");
+    for run in wants(&image, &zeros(7), DONE, 7, 3, 0) {
+        assert_eq!([run.cell(0), run.cell(1), run.cell(2)], [int(1), int(1), int(0)]);
+    }
+    wants(&image, &zeros(6), USED_UP, 6, 3, 0);
+}
+
+#[test]
+fn e_static_scoping() {
+    let image = script("var r; var h; {h = 1; var p; {p = proc y: r = y - (0 - h); var h; {h = 2; p(4)}}}");
+    for run in wants(&image, &zeros(9), DONE, 9, 5, 0) {
+        assert_eq!(run.cell(0), int(5));
+    }
+}
+
+#[test]
+fn f_object_creation() {
+    let image = script(
+        "fields c 1, f 2, r 3: var x; {malloc(x); {x.c = 0; \
+         {x.f = proc y: if y < 1 x.r = x.c else x.f(y - 1); x.f(2)}}}",
+    );
+    for run in wants(&image, &zeros(11), DONE, 11, 4, 1) {
+        assert_eq!(run.workspace[1_027 + 2], int(0));
+    }
+}
+
+#[test]
+fn g_neighbours_interleave() {
+    let image = script("var x; {{x = 0; {x = x - -1; x = x - -1}} || x = 0}");
+    for run in wants(&image, &[0, 0, 0, 1, 0], DONE, 5, 1, 0) {
+        assert_eq!(run.cell(0), int(1));
+    }
+}
+
+#[test]
+fn h_i_j_atoms() {
+    let image = script("var x; {{x = 0; atom({x = x - -1; x = x - -1})} || x = 0}");
+    wants(&image, &[0, 0, 0, 1], OUT_OF_RANGE, 3, 1, 0);
+    for run in wants(&image, &[0, 1, 0, 0, 0, 0], DONE, 6, 1, 0) {
+        assert_eq!(run.cell(0), int(2));
+    }
+    for run in wants(&image, &zeros(6), DONE, 6, 1, 0) {
+        assert_eq!(run.cell(0), int(0));
+    }
+}
+
+#[test]
+fn k_own_frames() {
+    let image = script("{var x; x = 1 || var x; x = 2}");
+    for run in wants(&image, &[0, 1, 0, 0], DONE, 4, 2, 0) {
+        assert_eq!([run.cell(0), run.cell(1)], [int(1), int(2)]);
+    }
+}
+
+#[test]
+fn l_integers_have_32_bits() {
+    for run in wants(&script("var x; x = -2147483648 - 0"), &zeros(2), DONE, 2, 1, 0) {
+        assert_eq!(run.cell(0), int(i32::MIN));
+    }
+    for run in wants(&script("var x; x = -2147483648 - 1"), &zeros(2), (2, 2), 1, 1, 0) {
+        assert_eq!(run.answer.node, 2);
+    }
+}
+
+#[test]
+fn m_procedures_compared() {
+    let same = script("var x; if proc y: skip == proc y: skip x = 1 else x = 2");
+    let other = script("var x; if proc y: skip == proc z: skip x = 1 else x = 2");
+    for (image, result) in [(same, 1), (other, 2)] {
+        for run in wants(&image, &zeros(3), DONE, 3, 1, 0) {
+            assert_eq!(run.cell(0), int(result));
+        }
+    }
+}
+
+#[test]
+fn n_rooms() {
+    let calls = script("var p; {p = proc y: p(y); p(0)}");
+    wants(&calls, &zeros(2_000), (3, 1), 1_025, 1_024, 0);
+    let objects = script("var x; while true malloc(x)");
+    wants(&objects, &zeros(2_000), (3, 2), 514, 1, 256);
+}
+
+fn skips(count: usize) -> Image {
+    let all = (1..count).fold(skip(), |left: Branch, _| parallel(left, skip()));
+    all.image(&[], 0)
+}
+
+#[test]
+fn o_control_has_255_parts() {
+    for run in wants(&skips(128), &zeros(200), DONE, 128, 0, 0) {
+        assert_eq!(run.workspace[2], 0);
+    }
+    for run in wants(&skips(128), &[], USED_UP, 0, 0, 0) {
+        assert_eq!(run.workspace[2], 255);
+    }
+    for run in wants(&skips(129), &zeros(200), (3, 3), 0, 0, 0) {
+        assert!(run.workspace.iter().all(|&word| word == 0));
+    }
+}
+
+#[test]
+fn listing_example() {
+    let image = script("var x; x = 1").bytes();
+    assert_eq!(image.len(), 34);
+    let text = "step choice node tag frames objects\n1 0 2 32 1 0\n2 0 1 35 1 0\nend 1 steps 2\ncell 0 name 0 int 1\n";
+    assert_eq!(listing(Some(&image), Some(&[0, 0])), text);
+    assert_eq!(listing(None, Some(&[0; 5_000])), "no input\n");
+    assert_eq!(listing(Some(&image), None), "no input\n");
+    assert_eq!(listing(Some(&[]), Some(&[0; 4_097])), "choices too long\n");
+    assert_eq!(listing(Some(&[]), Some(&[0; 4_096])), "refused 1 at 0\n");
+    assert_eq!(listing(Some(&image), Some(&[])), "step choice node tag frames objects\nend 4 steps 0\n");
+    assert!(listing(Some(&image), Some(&[0, 1])).ends_with("\nend 5 steps 1\ncell 0 name 0 null\n"));
+    assert!(listing(Some(&script("var x; while true malloc(x)").bytes()), Some(&[0; 600]))
+        .ends_with("\nend 3 room 2 steps 514\ncell 0 name 0 object 255\n"));
+    assert_eq!(listing(Some(&script("{malloc(x); x = 1}").bytes()), Some(&[])), "refused 9 at 0\n");
+}
+
+#[test]
+fn listing_of_every_value_and_end() {
+    let image = script(
+        "fields c 12, f 700: var x; {malloc(x); {x.c = proc y: skip; {x.f = c; {x.c = x.c; \
+         {(proc z: skip)(null - 1); {x = -5; x.c = 1}}}}}}",
+    );
+    let text = listing(Some(&image.bytes()), Some(&[0; 20]));
+    let (rows, rest) = text.split_at(text.find("end").expect("an end"));
+    assert_eq!(rows.lines().count(), 9);
+    let at = image.nodes.len() - 8;
+    assert_eq!(
+        rest,
+        format!(
+            "end 2 fault 3 node {at} steps 8\ncell 0 name 0 int -5\ncell 1 name 2 fault 1\n\
+             object 0 field 12 proc 4 0\nobject 0 field 700 field 12\n"
+        )
+    );
+    let rootless = script("(proc y: skip)(proc y: skip)");
+    assert!(listing(Some(&rootless.bytes()), Some(&[0])).ends_with("end 4 steps 1\ncell 0 name 0 proc 3 none\n"));
+}
+
+#[cfg(feature = "library")]
+#[test]
+fn the_library_names_the_same_size() {
+    assert_eq!(flagcopper_tests::library::size(), SIZE);
+}
