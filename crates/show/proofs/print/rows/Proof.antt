@@ -1,3 +1,4 @@
+use Rattle.show.proofs.SameLines.{row-whole}
 use borrow.Author.Needs.{needs}
 use native.Mathlib.Omega.{arith}
 use lib.ListN.{length}
@@ -20,7 +21,7 @@ loop-holds c = omega arith
 
 -- src/print.rt:32:9
 print-row-requires : tie.Need-print-row-requires Inv-loop μ-loop
-print-row-requires c κs = omega arith
+print-row-requires c κs = search (needs, row-whole)
 
 -- src/print.rt:33:9
 add-i : tie.Need-add-i Inv-loop μ-loop
