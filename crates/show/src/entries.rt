@@ -18,7 +18,15 @@ pub fn row(out: &mut [u8], rows: &[u32], i: usize) -> usize
     ensures { λ r. ⌜ Line (rowLine (i + 1) (rowIn (now (rows .entry)) i)) (now (out .entry)) r (now (out .exit)) ⌝ }
 {
     let at = 5 * i;
-    report::lines::row_line(out, i + 1, rows[at], rows[at + 1], rows[at + 2], rows[at + 3], rows[at + 4])
+    report::lines::row_line(
+        out,
+        i + 1,
+        rows[at],
+        rows[at + 1],
+        rows[at + 2],
+        rows[at + 3],
+        rows[at + 4],
+    )
 }
 
 pub fn cell(out: &mut [u8], script: &[u8], ws: &[u64], k: u32) -> usize

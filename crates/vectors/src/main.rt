@@ -5,20 +5,22 @@ fn print_name(path: &[u8]) {
     io::write_all(1, b"\n");
 }
 
-fn vector(i: usize) {
+// The arguments at these two places.
+fn vector(first: usize, second: usize) {
     let mut script = io::buffer();
-    let n = os::arg(i, &mut script);
+    let n = os::arg(first, &mut script);
     let mut choices = io::buffer();
-    let m = os::arg(i + 1, &mut choices);
+    let m = os::arg(second, &mut choices);
     print_name(&script[..n]);
     lister::list_paths(&script[..n], &choices[..m]);
 }
 
 fn main() {
-    let count = os::arg_count();
-    let mut i: usize = 1;
-    while i + 1 < count {
-        vector(i);
-        i += 2;
+    // argument 0 is the program's own name
+    let count = os::arg_count() / 2;
+    let mut k: usize = 0;
+    while k < count {
+        vector(2 * k + 1, 2 * k + 2);
+        k += 1;
     }
 }
