@@ -1,5 +1,5 @@
 // One entry as its line, from the start of a buffer of 128 bytes or more: a row of the lent rows, a frame's cell and a
-// field of an object from the words. The contracts say exactly which bytes; proofs/Entries says that they are those of
+// field of an object from the words. The contracts say exactly which bytes; proofs/OfState says that they are those of
 // the state that lies in the words.
 use store::frames;
 use store::values;
