@@ -1,0 +1,6 @@
+pub mod CodeLaws
+pub mod ValueLaws
+pub mod LineLaws
+pub mod EndLaws
+pub mod Example
+pub mod LinesAt

@@ -1,0 +1,3 @@
+pub mod WroteLaws
+pub mod DecimalLaws
+pub mod SignedLaws
