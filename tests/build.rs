@@ -1,4 +1,4 @@
-//! Links the proved library, made by `rt staticlib capi`, when the feature `library` asks for it.
+//! Links the proved library, made by `rt staticlib capi`, unless the feature `library` is turned off.
 
 use std::env::var;
 use std::path::Path;

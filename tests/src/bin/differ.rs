@@ -32,7 +32,7 @@ fn subject() -> (String, Box<dyn Subject>) {
         None => {
             let library = subjects().into_iter().find(|(name, _)| *name == "library");
             let (name, subject) =
-                library.expect("nothing to compare: build with --features library, or name a wrong turn");
+                library.expect("nothing to compare: build with the feature library, or name a wrong turn");
             (name.to_string(), subject)
         }
     }
