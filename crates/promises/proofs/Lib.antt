@@ -1,2 +1,4 @@
+pub mod Answers
+pub mod LastStep
 pub mod Promises
 pub mod Excluded

@@ -1,6 +1,6 @@
 -- All that we promise, on one page. The contracts of `check`, `run` and `trace` (crates/interpreter/src/lib.rt) say that
 -- the answer is `answerOf`, the workspace `wordsAfter`, the rows `rowsAfter`, for every input: `FaceSays`. Here stands what
--- the three demands say of those. Every proof is elsewhere. The one premise, `Bytes`, is what a slice of bytes is.
+-- the three demands say of those; the proofs are elsewhere. The premise `Bytes` is what a slice of bytes is.
 -- Assumes nothing.
 use Prim.Native.Nat.{ℕ, _+_, _<_, _≤_}
 use mathlib.Core.Path.{_≡_, refl, sym, ap, subst, _∙_}
@@ -8,12 +8,12 @@ use mathlib.Core.Logic.{_↔_}
 use mathlib.Core.Option.{Option, none, some}
 use mathlib.Core.List.{List, [], _∷_, _++_}
 use native.Mathlib.Omega.{arith}
-use lib.ListN.{length, drop}
+use lib.ListN.{length, take, drop}
 use Rattle.rules.specs.declared.Answer.{Answer}
 use Rattle.rules.specs.declared.Answer.the-variants.{Refusal, Ending}
 use Rattle.rules.specs.declared.End.{End}
-use Rattle.rules.specs.declared.End.the-variants.{UsedUp}
-use Rattle.rules.specs.declared.Stop.the-variants.{NoRule}
+use Rattle.rules.specs.declared.End.the-variants.{UsedUp, Stopped}
+use Rattle.rules.specs.declared.Stop.the-variants.{NoRule, Full}
 use Rattle.rules.specs.declared.Verdict.{Verdict}
 use Rattle.rules.specs.declared.Verdict.the-variants.{Accepted, Refused}
 use Rattle.rules.specs.Image.{nodesOf}
@@ -22,7 +22,7 @@ use Rattle.rules.specs.Published.{Bytes, Published}
 use Rattle.rules.specs.State.{Store, empty, mostParts}
 use Rattle.rules.specs.Control.{Control, parts}
 use Rattle.rules.specs.Step.{Outcome, stops, step, miniOO}
-use Rattle.rules.specs.Run.{Ran, scriptOf, rootOf, runScript, answered, answerOf}
+use Rattle.rules.specs.Run.{scriptOf, rootOf, runScript, answerOf}
 use Rattle.rules.specs.Layout.{layout}
 use Rattle.rules.specs.Lent.{wordsAfterRun, wordsAfter, rowsAfterRun, rowsAfter}
 use Rattle.rules.specs.Paper.{Makes}
@@ -32,9 +32,13 @@ use Rattle.rules.proofs.Good.{roomy}
 use Rattle.rules.proofs.Agree.{paper-if, paper-only}
 use Rattle.rules.proofs.Runs as Runs
 use Rattle.safety.specs.Reaches.{Moment, begins}
+use Rattle.safety.specs.Fits.{EndFits}
+use Rattle.safety.specs.Rooms.{ForRoom}
 use Rattle.safety.proofs.Zero.{Numbered, no-answer-is-zero}
 use Rattle.safety.proofs.ReachesMoments.{run-moment}
 use Rattle.holds.specs.Says.{FaceSays}
+use Rattle.promises.proofs.Answers.{refused-answer, answer-refused, accepted-answer, answer-end, answer-steps}
+use Rattle.promises.proofs.LastStep.{last-step, last-words}
 -- demand 3, at every moment of the run of an accepted script, sentence by sentence
 pub use Rattle.safety.proofs.Demand3.{needed-name-is-found, found-frame-is-newest, waiting-name-is-found, body-name-is-found, held-object-exists, held-procedure-exists, nothing-is-never-held, only-the-entered-block-moves, only-inside-an-entered-atom, run-ends-as-said, room-only-when-needed, room-when-needed}
 
@@ -58,10 +62,6 @@ module _ (script choices lent : List ℕ) (are-bytes : Bytes script) where
   abbrev answer : Answer
   answer = answerOf (length lent) script choices
 
-  by-check : (v : Verdict) → check (length lent) script ≡ v → answer ≡ answered v (runScript script choices)
-  unfolding answerOf
-  by-check v e = rw e
-
   -- ---- demand 1
 
   -- "it ends, with one of the numbered results": a refusal 1 to 10; or an end 1 to 5, with a fault 1 to 7 at a node of the
@@ -71,19 +71,10 @@ module _ (script choices lent : List ℕ) (are-bytes : Bytes script) where
 
   -- "A refused script gives the first reason in the fixed order and the place"
   pub demand-1-first-reason : (k p : ℕ) → (answer ≡ Refusal k p) ↔ First (length lent) script k p
-  unfolding answered
-  demand-1-first-reason k p = (λ e. refused-only (length lent) script k p (only (check (length lent) script) refl e), λ f. by-check (Refused k p) (refused-if (length lent) script k p f))
-    where
-      only : (v : Verdict) → check (length lent) script ≡ v → answer ≡ Refusal k p → check (length lent) script ≡ Refused k p
-      only Accepted e f =
-          let x : Ending (runScript script choices .end) (runScript script choices .steps) ≡ Refusal k p = sym (by-check Accepted e) ∙ f in
-          let z : _≡_ {A = ℕ} 0 1 = cc in
-          absurd (omega arith)
-      only (Refused j q) e f =
-          let x : Refusal j q ≡ Refusal k p = sym (by-check (Refused j q) e) ∙ f in
-          let a : j ≡ k = cc in
-          let b : q ≡ p = cc in
-          e ∙ rw (a, b)
+  demand-1-first-reason k p = (
+    λ e. refused-only (length lent) script k p (answer-refused (length lent) script choices k p e),
+    λ f. refused-answer (length lent) script choices k p (refused-if (length lent) script k p f),
+  )
 
   -- "and the lent workspace stays untouched", and the lent rows
   pub demand-1-untouched : (k p : ℕ) (rows : List ℕ) → First (length lent) script k p
@@ -100,18 +91,41 @@ module _ (script choices lent : List ℕ) (are-bytes : Bytes script) where
   module _ (accepted : check (length lent) script ≡ Accepted) where
     -- the run is the rules' run: same stop, same count of steps, same cells, same objects, same control
     pub demand-2-answer : answer ≡ Ending (runScript script choices .end) (runScript script choices .steps)
-    unfolding answered
-    demand-2-answer = by-check Accepted accepted
+    demand-2-answer = accepted-answer (length lent) script choices accepted
 
     pub demand-2-words : wordsAfter script choices lent ≡ layout (runScript script choices .store) (runScript script choices .control) ++ drop size lent
     unfolding wordsAfter wordsAfterRun
     demand-2-words = rw accepted
 
-    -- "A stop in mid-run leaves the workspace as the last finished step left it": what stands is a moment of the run
-    pub demand-1-last-step : parts (begins (miniOO (scriptOf script)) (rootOf script)) ≤ mostParts
+    -- "A stop in mid-run leaves the workspace as the last finished step left it": after n steps the words are those that the
+    -- first n choices leave, each of which was a step
+    pub demand-1-last-step : (e : End) (n : ℕ) → answer ≡ Ending e n
+        → (wordsAfter script choices lent ≡ wordsAfter script (take n choices) lent) × (runScript script (take n choices) .steps ≡ n)
+    demand-1-last-step e n f = let a = answer-steps (length lent) script choices accepted e n f in (
+      subst (λ m. wordsAfter script choices lent ≡ wordsAfter script (take m choices) lent) a (last-words script choices lent),
+      subst (λ m. runScript script (take m choices) .steps ≡ m) a (last-step script choices .steps),
+    )
+
+    -- ---- demand 3, of the answer and of the state in the words; at every other moment: the theorems named above
+
+    -- "So the run can stop only as done, as one of the seven faults, for the choices, or for room"
+    pub demand-3-ends : (e : End) (n : ℕ) → answer ≡ Ending e n → EndFits (scriptOf script) e
+    demand-3-ends e n f =
+        subst (EndFits (scriptOf script)) (answer-end (length lent) script choices accepted e n f)
+        (run-ends-as-said (length lent) script are-bytes accepted choices)
+
+    -- "and for room exactly when .."
+    pub demand-3-room : (k : ℕ) → ((n : ℕ) × (answer ≡ Ending (Stopped (Full k)) n)) ↔ ForRoom (scriptOf script) (rootOf script) choices k
+    demand-3-room k = (
+      λ x. room-only-when-needed (length lent) script are-bytes accepted choices k (answer-end (length lent) script choices accepted (Stopped (Full k)) (x .0) (x .1)),
+      λ r. (runScript script choices .steps, demand-2-answer ∙ rw (room-when-needed (length lent) script are-bytes accepted choices k r)),
+    )
+
+    -- the state that the words lay out is a moment of the run, so all that is said of moments is true of it
+    pub demand-3-left : parts (begins (miniOO (scriptOf script)) (rootOf script)) ≤ mostParts
         → Moment (miniOO (scriptOf script)) empty (rootOf script) choices (runScript script choices .store) (runScript script choices .control)
     unfolding runScript
-    demand-1-last-step h = run-moment (scriptOf script) (rootOf script) choices h
+    demand-3-left h = run-moment (scriptOf script) (rootOf script) choices h
 
 -- each shorter list of choices has its own state, and the run goes on from there; a run that has ended stays as it is
 pub demand-2-shorter : (script first later : List ℕ) → runScript script (first ++ later) ≡ Runs.goOn (miniOO (scriptOf script)) later (runScript script first)

@@ -1,0 +1,71 @@
+-- "A stop in mid-run leaves the workspace as the last finished step left it": a run of n steps leaves what the run over its
+-- first n choices leaves, and of those choices each was a step. For any machine. Assumes nothing.
+use Prim.Native.Nat.{ℕ, suc, zero, _+_}
+use mathlib.Core.Path.{_≡_, refl, sym, ap, _∙_}
+use mathlib.Core.Bool.{Bool, true, false, cond}
+use mathlib.Core.Option.{Option, none, some}
+use mathlib.Core.List.{List, [], _∷_}
+use native.Mathlib.Omega.{arith}
+use lib.ListN.{length, take}
+use Rattle.rules.specs.declared.Chain.the-variants.{Empty}
+use Rattle.rules.specs.Control.{Control, opened, fits}
+use Rattle.rules.specs.Step.{Machine, Outcome, goesTo, stops, step, miniOO}
+use Rattle.rules.specs.Run.{Ran, ran, onward, runFrom, run, runScript, scriptOf, rootOf}
+use Rattle.rules.specs.declared.Verdict.{Verdict}
+use Rattle.rules.specs.declared.Verdict.the-variants.{Accepted, Refused}
+use Rattle.rules.specs.Refusals.{check}
+use Rattle.rules.specs.State.{Store, empty}
+use Rattle.rules.specs.Lent.{wordsAfterRun, wordsAfter}
+use Rattle.rules.proofs.Runs.{run-done, steps-at-least}
+
+-- the same state, and as many steps
+pub record Leaves {S : Type 0} (a b : Ran S) : Type 0 where
+  pub store : a .store ≡ b .store
+  pub control : a .control ≡ b .control
+  pub steps : a .steps ≡ b .steps
+
+same : {S : Type 0} (a : Ran S) → Leaves a a
+same a = record { store = refl; control = refl; steps = refl }
+
+module _ {S E : Type 0} (m : Machine S E) where
+  from : (cs : List ℕ) (k : ℕ) (s : S) (o : Option Control) (n : ℕ) → runFrom m cs k s o .steps ≡ k + n
+      → Leaves (runFrom m (take n cs) k s o) (runFrom m cs k s o)
+  unfolding runFrom onward ran
+  from [] k s o zero e = same _
+  from [] k s o (suc n) e = same _
+  from (i ∷ cs) k s none n e = rw (run-done m (take n (i ∷ cs)) k s) (same _)
+  from (i ∷ cs) k s (some t) n e = go (from cs (suc k)) (step m s t i) refl n e
+    where
+      go : ((s′ : S) (o : Option Control) (j : ℕ) → runFrom m cs (suc k) s′ o .steps ≡ suc k + j
+          → Leaves (runFrom m (take j cs) (suc k) s′ o) (runFrom m cs (suc k) s′ o))
+          → (x : Outcome S) → step m s t i ≡ x → (j : ℕ) → onward (runFrom m cs (suc k)) k s t x .steps ≡ k + j
+          → Leaves (runFrom m (take j (i ∷ cs)) k s (some t)) (onward (runFrom m cs (suc k)) k s t x)
+      go on (goesTo s′ o) p zero f = let l = steps-at-least m cs (suc k) s′ o in absurd (omega (arith, l, f))
+      go on (goesTo s′ o) p (suc j) f = rw p (on s′ o j (omega (arith, f)))
+      go on (stops r) p zero f = record { store = refl; control = refl; steps = refl }
+      go on (stops r) p (suc j) f = absurd (omega (arith, f))
+
+  -- from the control that the root is opened to
+  begun : (s : S) (o : Control) (b : Bool) (cs : List ℕ) (stop : Ran S)
+      → Leaves (cond b (runFrom m (take (cond b (runFrom m cs 0 s (some o)) stop .steps) cs) 0 s (some o)) stop)
+      (cond b (runFrom m cs 0 s (some o)) stop)
+  begun s o true cs stop = from cs 0 s (some o) (runFrom m cs 0 s (some o) .steps) (omega arith)
+  begun s o false cs stop = same stop
+
+  whole : (s : S) (root : ℕ) (cs : List ℕ) → Leaves (run m s root (take (run m s root cs .steps) cs)) (run m s root cs)
+  unfolding run ran
+  whole s root cs = begun s (opened (m .cmdAt root) Empty) (fits (some (opened (m .cmdAt root) Empty))) cs _
+
+pub last-step : (script choices : List ℕ) → Leaves (runScript script (take (runScript script choices .steps) choices)) (runScript script choices)
+unfolding runScript
+last-step script choices = whole (miniOO (scriptOf script)) empty (rootOf script) choices
+
+words : (v : Verdict) (a b : Ran Store) (lent : List ℕ) → Leaves a b → wordsAfterRun v b lent ≡ wordsAfterRun v a lent
+unfolding wordsAfterRun
+words Accepted a b lent l = rw (l .store, l .control)
+words (Refused k p) a b lent l = refl
+
+pub last-words : (script choices lent : List ℕ) → wordsAfter script choices lent ≡ wordsAfter script (take (runScript script choices .steps) choices) lent
+unfolding wordsAfter
+last-words script choices lent =
+    words (check (length lent) script) (runScript script (take (runScript script choices .steps) choices)) (runScript script choices) lent (last-step script choices)
