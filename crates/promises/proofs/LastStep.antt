@@ -1,21 +1,26 @@
 -- "A stop in mid-run leaves the workspace as the last finished step left it": a run of n steps leaves what the run over its
 -- first n choices leaves, and of those choices each was a step. For any machine. Assumes nothing.
-use Prim.Native.Nat.{ℕ, suc, zero, _+_}
+use Prim.Native.Nat.{ℕ, suc, zero, _+_, _<_}
 use mathlib.Core.Path.{_≡_, refl, sym, ap, _∙_}
 use mathlib.Core.Bool.{Bool, true, false, cond}
 use mathlib.Core.Option.{Option, none, some}
 use mathlib.Core.List.{List, [], _∷_}
 use native.Mathlib.Omega.{arith}
 use lib.ListN.{length, take}
+use lib.Dec.{leb}
+use borrow.Author.Tests.{lt-leb}
 use Rattle.rules.specs.declared.Chain.the-variants.{Empty}
-use Rattle.rules.specs.Control.{Control, opened, fits}
+use Rattle.rules.specs.declared.End.the-variants.{Stopped}
+use Rattle.rules.specs.declared.Stop.the-variants.{Full}
+use Rattle.rules.specs.Control.{Control, parts, opened, fits}
 use Rattle.rules.specs.Step.{Machine, Outcome, goesTo, stops, step, miniOO}
 use Rattle.rules.specs.Run.{Ran, ran, onward, runFrom, run, runScript, scriptOf, rootOf}
 use Rattle.rules.specs.declared.Verdict.{Verdict}
 use Rattle.rules.specs.declared.Verdict.the-variants.{Accepted, Refused}
 use Rattle.rules.specs.Refusals.{check}
-use Rattle.rules.specs.State.{Store, empty}
+use Rattle.rules.specs.State.{Store, empty, mostParts}
 use Rattle.rules.specs.Lent.{wordsAfterRun, wordsAfter}
+use Rattle.safety.specs.Reaches.{begins}
 use Rattle.rules.proofs.Runs.{run-done, steps-at-least}
 
 -- the same state, and as many steps
@@ -69,3 +74,12 @@ pub last-words : (script choices lent : List ℕ) → wordsAfter script choices 
 unfolding wordsAfter
 last-words script choices lent =
     words (check (length lent) script) (runScript script (take (runScript script choices .steps) choices)) (runScript script choices) lent (last-step script choices)
+
+-- a root that is too large as opened: no step, and nothing is left
+pub too-large : (script choices : List ℕ) → mostParts < parts (begins (miniOO (scriptOf script)) (rootOf script))
+    → runScript script choices ≡ ran (Stopped (Full 3)) 0 empty none
+unfolding runScript run fits begins
+too-large script choices h =
+    let z : leb (parts (begins (miniOO (scriptOf script)) (rootOf script))) mostParts ≡ false =
+    lt-leb (parts (begins (miniOO (scriptOf script)) (rootOf script))) mostParts h in
+    rw z

@@ -8,7 +8,7 @@ use mathlib.Core.Logic.{_↔_}
 use mathlib.Core.Option.{Option, none, some}
 use mathlib.Core.List.{List, [], _∷_, _++_}
 use native.Mathlib.Omega.{arith}
-use lib.ListN.{length, take, drop}
+use lib.ListN.{length, take, drop, replicate}
 use Rattle.rules.specs.declared.Answer.{Answer}
 use Rattle.rules.specs.declared.Answer.the-variants.{Refusal, Ending}
 use Rattle.rules.specs.declared.End.{End}
@@ -22,7 +22,7 @@ use Rattle.rules.specs.Published.{Bytes, Published}
 use Rattle.rules.specs.State.{Store, empty, mostParts}
 use Rattle.rules.specs.Control.{Control, parts}
 use Rattle.rules.specs.Step.{Outcome, stops, step, miniOO}
-use Rattle.rules.specs.Run.{scriptOf, rootOf, runScript, answerOf}
+use Rattle.rules.specs.Run.{Ran, ran, scriptOf, rootOf, runScript, answerOf}
 use Rattle.rules.specs.Layout.{layout}
 use Rattle.rules.specs.Lent.{wordsAfterRun, wordsAfter, rowsAfterRun, rowsAfter}
 use Rattle.rules.specs.Paper.{Makes}
@@ -31,6 +31,7 @@ use Rattle.rules.proofs.Accept.{accepted-published, published-accepted}
 use Rattle.rules.proofs.Good.{roomy}
 use Rattle.rules.proofs.Agree.{paper-if, paper-only}
 use Rattle.rules.proofs.Runs as Runs
+use Rattle.words.proofs.Starting.{start-zeros}
 use Rattle.safety.specs.Reaches.{Moment, begins}
 use Rattle.safety.specs.Fits.{EndFits}
 use Rattle.safety.specs.Rooms.{ForRoom}
@@ -38,7 +39,7 @@ use Rattle.safety.proofs.Zero.{Numbered, no-answer-is-zero}
 use Rattle.safety.proofs.ReachesMoments.{run-moment}
 use Rattle.holds.specs.Says.{FaceSays}
 use Rattle.promises.proofs.Answers.{refused-answer, answer-refused, accepted-answer, answer-end, answer-steps}
-use Rattle.promises.proofs.LastStep.{last-step, last-words}
+use Rattle.promises.proofs.LastStep.{last-step, last-words, too-large}
 -- demand 3, at every moment of the run of an accepted script, sentence by sentence
 pub use Rattle.safety.proofs.Demand3.{needed-name-is-found, found-frame-is-newest, waiting-name-is-found, body-name-is-found, held-object-exists, held-procedure-exists, nothing-is-never-held, only-the-entered-block-moves, only-inside-an-entered-atom, run-ends-as-said, room-only-when-needed, room-when-needed}
 
@@ -104,6 +105,15 @@ module _ (script choices lent : List ℕ) (are-bytes : Bytes script) where
     demand-1-last-step e n f = let a = answer-steps (length lent) script choices accepted e n f in (
       subst (λ m. wordsAfter script choices lent ≡ wordsAfter script (take m choices) lent) a (last-words script choices lent),
       subst (λ m. runScript script (take m choices) .steps ≡ m) a (last-step script choices .steps),
+    )
+
+    -- a root that has more than 255 parts as opened: room 3 with 0 steps, and the workspace is zero throughout its size
+    pub demand-1-too-large : mostParts < parts (begins (miniOO (scriptOf script)) (rootOf script))
+        → (answer ≡ Ending (Stopped (Full 3)) 0) × (wordsAfter script choices lent ≡ replicate size 0 ++ drop size lent)
+    unfolding ran size
+    demand-1-too-large h = let e = too-large script choices h in (
+      demand-2-answer ∙ ap (λ (r : Ran Store). Ending (r .end) (r .steps)) e,
+      demand-2-words ∙ ap (λ (r : Ran Store). layout (r .store) (r .control) ++ drop size lent) e ∙ ap (λ (l : List ℕ). l ++ drop size lent) start-zeros,
     )
 
     -- ---- demand 3, of the answer and of the state in the words; at every other moment: the theorems named above
