@@ -1,6 +1,7 @@
 -- The invariant of demand 3 isn't vacuous. Worked cases of document 01 are accepted, by computing, and made of bytes; so
--- they are safe at every moment, and the state of three such moments is written out. And `Safe` is false of any state
--- that has a chain with no such frame, an object with no such number, or two atoms entered side by side.
+-- they are safe at every moment, and the state of three such moments is written out. And `Safe` is false of a state
+-- whose one command has a chain with no such frame, of one with a cell that holds an object with no such number, and of
+-- one with two atoms entered side by side.
 -- Assumes nothing.
 use Prim.Native.Nat.{ℕ, zero, suc, _<_, _≤_}
 use mathlib.Core.Path.{_≡_, refl, sym, subst}
