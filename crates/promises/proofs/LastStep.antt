@@ -1,6 +1,6 @@
 -- "A stop in mid-run leaves the workspace as the last finished step left it": a run of n steps leaves what the run over its
 -- first n choices leaves, and of those choices each was a step. For any machine. Assumes nothing.
-use Prim.Native.Nat.{ℕ, suc, zero, _+_, _<_}
+use Prim.Native.Nat.{ℕ, suc, zero, _+_, _<_, _≤_}
 use mathlib.Core.Path.{_≡_, refl, sym, ap, _∙_}
 use mathlib.Core.Bool.{Bool, true, false, cond}
 use mathlib.Core.Option.{Option, none, some}
@@ -8,7 +8,7 @@ use mathlib.Core.List.{List, [], _∷_}
 use native.Mathlib.Omega.{arith}
 use lib.ListN.{length, take}
 use lib.Dec.{leb}
-use borrow.Author.Tests.{lt-leb}
+use borrow.Author.Tests.{le-leb, lt-leb}
 use Rattle.rules.specs.declared.Chain.the-variants.{Empty}
 use Rattle.rules.specs.declared.End.the-variants.{Stopped}
 use Rattle.rules.specs.declared.Stop.the-variants.{Full}
@@ -21,6 +21,7 @@ use Rattle.rules.specs.Refusals.{check}
 use Rattle.rules.specs.State.{Store, empty, mostParts}
 use Rattle.rules.specs.Lent.{wordsAfterRun, wordsAfter}
 use Rattle.safety.specs.Reaches.{begins}
+use Rattle.safety.proofs.Ends.{Left, run-leaves}
 use Rattle.rules.proofs.Runs.{run-done, steps-at-least}
 
 -- the same state, and as many steps
@@ -83,3 +84,12 @@ too-large script choices h =
     let z : leb (parts (begins (miniOO (scriptOf script)) (rootOf script))) mostParts ≡ false =
     lt-leb (parts (begins (miniOO (scriptOf script)) (rootOf script))) mostParts h in
     rw z
+
+-- the state that a run leaves is reached from the start by its first choices, one step each (`Left`: those used, the rest, and the count)
+pub reached : (script choices : List ℕ) → parts (begins (miniOO (scriptOf script)) (rootOf script)) ≤ mostParts
+    → Left (miniOO (scriptOf script)) choices 0 empty (some (begins (miniOO (scriptOf script)) (rootOf script))) (runScript script choices)
+unfolding runScript run fits begins
+reached script choices h =
+    let z : leb (parts (begins (miniOO (scriptOf script)) (rootOf script))) mostParts ≡ true =
+    le-leb (parts (begins (miniOO (scriptOf script)) (rootOf script))) mostParts h in
+    rw z (run-leaves (miniOO (scriptOf script)) choices 0 empty (some (begins (miniOO (scriptOf script)) (rootOf script))))

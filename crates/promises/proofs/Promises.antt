@@ -1,5 +1,5 @@
 -- All that we promise, on one page. The contracts of `check`, `run` and `trace` (crates/interpreter/src/lib.rt) say that
--- the answer is `answerOf`, the workspace `wordsAfter`, the rows `rowsAfter`, for every input: `FaceSays`. Here stands what
+-- the answer is `answerOf`, the workspace `wordsAfter`, the rows `rowsAfter`, for every input (`FaceSays` of trace). Here stands what
 -- the three demands say of those; the proofs are elsewhere. The premise `Bytes` is what a slice of bytes is.
 -- Assumes nothing.
 use Prim.Native.Nat.{ℕ, _+_, _<_, _≤_}
@@ -37,9 +37,10 @@ use Rattle.safety.specs.Fits.{EndFits}
 use Rattle.safety.specs.Rooms.{ForRoom}
 use Rattle.safety.proofs.Zero.{Numbered, no-answer-is-zero}
 use Rattle.safety.proofs.ReachesMoments.{run-moment}
+use Rattle.safety.proofs.Ends.{Left}
 use Rattle.holds.specs.Says.{FaceSays}
 use Rattle.promises.proofs.Answers.{refused-answer, answer-refused, accepted-answer, answer-end, answer-steps}
-use Rattle.promises.proofs.LastStep.{last-step, last-words, too-large}
+use Rattle.promises.proofs.LastStep.{last-step, last-words, too-large, reached}
 -- demand 3, at every moment of the run of an accepted script, sentence by sentence
 pub use Rattle.safety.proofs.Demand3.{needed-name-is-found, found-frame-is-newest, waiting-name-is-found, body-name-is-found, held-object-exists, held-procedure-exists, nothing-is-never-held, only-the-entered-block-moves, only-inside-an-entered-atom, run-ends-as-said, room-only-when-needed, room-when-needed}
 
@@ -107,6 +108,11 @@ module _ (script choices lent : List ℕ) (are-bytes : Bytes script) where
       subst (λ m. runScript script (take m choices) .steps ≡ m) a (last-step script choices .steps),
     )
 
+    -- .. and that state is reached from the start by the choices used, one step each, as many as are counted
+    pub demand-1-reached : parts (begins (miniOO (scriptOf script)) (rootOf script)) ≤ mostParts
+        → Left (miniOO (scriptOf script)) choices 0 empty (some (begins (miniOO (scriptOf script)) (rootOf script))) (runScript script choices)
+    demand-1-reached h = reached script choices h
+
     -- a root that has more than 255 parts as opened: room 3 with 0 steps, and the workspace is zero throughout its size
     pub demand-1-too-large : mostParts < parts (begins (miniOO (scriptOf script)) (rootOf script))
         → (answer ≡ Ending (Stopped (Full 3)) 0) × (wordsAfter script choices lent ≡ replicate size 0 ++ drop size lent)
@@ -141,7 +147,7 @@ module _ (script choices lent : List ℕ) (are-bytes : Bytes script) where
 pub demand-2-shorter : (script first later : List ℕ) → runScript script (first ++ later) ≡ Runs.goOn (miniOO (scriptOf script)) later (runScript script first)
 demand-2-shorter script first later = Runs.script-goes-on script first later
 
--- the count of steps is the count of choices used, one a step
+-- where the choices are used up, the count of steps is theirs
 pub demand-2-steps : (script choices : List ℕ) → runScript script choices .end ≡ UsedUp → runScript script choices .steps ≡ length choices
 demand-2-steps script choices e = Runs.script-used-up script choices e
 
