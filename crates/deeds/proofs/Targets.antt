@@ -5,7 +5,7 @@ use mathlib.Core.Bool.{Bool, true, false}
 use mathlib.Core.Option.{Option, none, some}
 use mathlib.Core.List.{List}
 use native.Mathlib.Omega.{arith}
-use lib.ListN.{length, getD}
+use lib.ListN.{length, getD, getElem?}
 use lib.Dec.{T}
 use Rattle.rules.specs.declared.Node.{Node}
 use Rattle.rules.specs.declared.Chain.{Chain}
@@ -19,7 +19,7 @@ use Rattle.rules.specs.declared.Stop.the-variants.{Faulted, NoRule}
 use Rattle.rules.specs.Syntax.{Exp, Cmd, var, call, malloc, assign, assignField, skip, while, if, atom, seq, par, proc, expNo, cmdNo}
 use Rattle.rules.specs.Image.{Kind, anExp, aTest, aCmd, tags, rowIn, rowOf, kindOf, nodesOf, nodeAt, treeAt, expAt, testAt, cmdAt, expOf, cmdOf}
 use Rattle.rules.specs.Good.{Good, Fit, RowFits}
-use Rattle.rules.specs.State.{Store, find}
+use Rattle.rules.specs.State.{Store, find, fieldOf}
 use Rattle.rules.specs.Eval.{Res, ok, fault, stuck, _>>=_, there, Closure, closure, asProc, Procedure, formal, stored, eval, test}
 use Rattle.rules.specs.Control.{Control}
 use Rattle.rules.specs.Step.{Deed, deed, newest, enter, calling, exec}
@@ -29,6 +29,7 @@ use Rattle.rules.proofs.Trees.{cmd-var, cmd-call, cmd-malloc, cmd-assign, cmd-a
 use Rattle.safety.specs.Safe.{single, Ready}
 use Rattle.words.specs.Lies.{Lies, Lying}
 use Rattle.words.proofs.Reading.{frame-count}
+use Rattle.words.proofs.Decides.{lies-once}
 use Rattle.image.specs.Read.{At}
 use Rattle.store.specs.declared.Found.{Found}
 use Rattle.store.specs.Says.{foundOf, FindSays}
@@ -46,34 +47,54 @@ use Rattle.rules.specs.Eval.{asObject, asField}
 use Rattle.rules.proofs.Trees.{treeAt-is, lower, cmd-seq, cmd-par, tree-field, tree-int, tree-diff, tree-null, tree-ref, tree-select}
 use Rattle.rules.proofs.TreeKinds.{_&_, exp-cases, cmd-cases, row-kind, is-exp, is-test, is-cmd}
 use Rattle.safety.specs.Safe.{FitCmd, Real, IsProc, Bears}
-use Rattle.safety.specs.Fits.{Fine}
-use Rattle.safety.proofs.Fine.{fine-eval}
+use Rattle.safety.specs.Fits.{Fine, DeedFits}
+use Rattle.safety.proofs.Progress.{fine-exec}
 use Rattle.deeds.proofs.Commands.{row-fits, tag-is}
 use Rattle.rules.specs.Syntax.{Test}
 
 -- ---- field assignment
 
-putIn : Res Value → Place → Res Deed
-putIn r (place o f) = putting r o f
+-- the right side, then the object and its field
+putIn : List (List Value) → Res Value → Place → Res Deed
+putIn os r (place o f) = stored r >>= λ u. there (getElem? os o) >>= λ vs. there (fieldOf vs f) >>= λ old. ok (deed (SetField o f u) Ended)
 
--- the target first, then the right side
-field-is : (n : ℕ) (p q r : Res Value)
-    → (p >>= λ v. q >>= λ w. asObject 3 n v >>= λ o. asField 4 n w >>= λ f. stored r >>= λ u. ok (deed (SetField o f u) Ended))
-    ≡ (targeting n p q >>= putIn r)
-unfolding targeting putting putIn _>>=_
-field-is n (ok v) (ok w) r = go (asObject 3 n v) (asField 4 n w)
+-- the target first
+field-is : (n : ℕ) (os : List (List Value)) (p q r : Res Value)
+    → (p >>= λ v. q >>= λ w. asObject 3 n v >>= λ o. asField 4 n w >>= λ f. stored r >>= λ u. there (getElem? os o) >>= λ vs. there (fieldOf vs f) >>= λ old. ok (deed (SetField o f u) Ended))
+    ≡ (targeting n p q >>= putIn os r)
+unfolding targeting putIn _>>=_
+field-is n os (ok v) (ok w) r = go (asObject 3 n v) (asField 4 n w)
   where
     go : (x : Res ℕ) (y : Res ℕ)
-        → (x >>= λ o. y >>= λ f. stored r >>= λ u. ok (deed (SetField o f u) Ended)) ≡ ((x >>= λ o. y >>= λ f. ok (place o f)) >>= putIn r)
+        → (x >>= λ o. y >>= λ f. stored r >>= λ u. there (getElem? os o) >>= λ vs. there (fieldOf vs f) >>= λ old. ok (deed (SetField o f u) Ended))
+        ≡ ((x >>= λ o. y >>= λ f. ok (place o f)) >>= putIn os r)
     go (ok o) (ok f) = refl
     go (ok o) (fault k m) = refl
     go (ok o) stuck = refl
     go (fault k m) y = refl
     go stuck y = refl
-field-is n (ok v) (fault k m) r = refl
-field-is n (ok v) stuck r = refl
-field-is n (fault k m) q r = refl
-field-is n stuck q r = refl
+field-is n os (ok v) (fault k m) r = refl
+field-is n os (ok v) stuck r = refl
+field-is n os (fault k m) q r = refl
+field-is n os stuck q r = refl
+
+-- a deed that is done where the field is there, and not stuck, is done
+kept : (x : Option (List Value)) (f : ℕ) (d : Deed)
+    → ((there x >>= λ vs. there (fieldOf vs f) >>= λ old. ok d) ≡ stuck → ⊥)
+    → (there x >>= λ vs. there (fieldOf vs f) >>= λ old. ok d) ≡ ok d
+unfolding there _>>=_
+kept none f d h = absurd (h refl)
+kept (some vs) f d h = go (fieldOf vs f) h
+  where
+    go : (y : Option Value) → ((there y >>= λ old. ok d) ≡ stuck → ⊥) → (there y >>= λ old. ok d) ≡ ok d
+    go none h = absurd (h refl)
+    go (some old) h = refl
+
+put-there : (os : List (List Value)) (r : Res Value) (o f : ℕ) → (putIn os r (place o f) ≡ stuck → ⊥) → putIn os r (place o f) ≡ putting r o f
+unfolding putting putIn stored _>>=_
+put-there os (ok v) o f h = kept (getElem? os o) f (deed (SetField o f v) Ended) h
+put-there os (fault k m) o f h = kept (getElem? os o) f (deed (SetField o f (Fault k)) Ended) h
+put-there os stuck o f h = refl
 
 spot-is : (z : Res Place) (o f : ℕ) → targetOf z ≡ Spot o f → z ≡ ok (place o f)
 spot-is (ok (place a b)) o f e = cc
@@ -86,6 +107,16 @@ no-spot (ok (place a b)) k q e = let z : _≡_ {A = ℕ} 0 1 = cc in absurd (ome
 no-spot (fault j n) k q e = let z : Faulted j n ≡ q = cc in ap Not z
 no-spot stuck k q e = let z : NoRule ≡ q = cc in ap Not z
 
+-- one state lies in the words, the safe one, and there a command that stands ready has a rule
+not-stuck : (img ws : List ℕ) (n : ℕ) (ch : Chain) → Standing img ws n ch
+    → (s : Store) (o : Option Control) (rest : List ℕ) → Lies s o rest ws → exec (scriptOf img) s ch (cmdAt (nodeAt img) n) ≡ stuck → ⊥
+unfolding scriptOf cmdAt
+not-stuck img ws n ch st s o rest l e =
+    let sn = st .ready .seen in
+    let same = lies-once s (st .store) o (st .control) rest (st .rest) ws l (lies img (st .store) (st .control) (st .rest) ws (st .holds)) .0 in
+    let fine = fine-exec (scriptOf img) (st .store) (st .holds .safe .store) ch (sn .names) (sn .chain) (cmdAt (nodeAt img) n) (st .ready .alone) (sn .scoped) in
+    subst (Fine (scriptOf img) (DeedFits (scriptOf img) (st .store))) (ap (λ (x : Store). exec (scriptOf img) x ch (cmdAt (nodeAt img) n)) (sym same) ∙ e) fine
+
 module _ (img ws : List ℕ) (ch : Chain) (n : ℕ) (x : Node) (w : At img n x) (g : Good img) (h : n < nodesOf img) (t : x .tag ≡ 36) where
   field-command : cmdAt (nodeAt img) n ≡ assignField n (expAt (nodeAt img) (x .a)) (expAt (nodeAt img) (x .b)) (expAt (nodeAt img) (x .c))
   unfolding rowOf rowIn tags
@@ -94,9 +125,9 @@ module _ (img ws : List ℕ) (ch : Chain) (n : ℕ) (x : Node) (w : At img n x) 
       subst (λ (y : Node). y .a < n → y .b < n → y .c < n → cmdAt (nodeAt img) n ≡ assignField n (expAt (nodeAt img) (y .a)) (expAt (nodeAt img) (y .b)) (expAt (nodeAt img) (y .c))) (sym (w .is)) (cmd-assignField (nodeAt img) n (tag-is img n x w 36 t)) (fs .0 .0) (fs .1 .0) (fs .2 .0)
 
   module _ (p q : Ev) (v : Evals img ws ch (x .a) p) (u : Evals img ws ch (x .b) q) (k : Target) (e : k ≡ targetOf (targeting n (resOf p) (resOf q))) where
-    pub does-field : (o f : ℕ) (z : Ev) (r : Out) → k ≡ Spot o f → Evals img ws ch (x .c) z → r ≡ outOf (putting (resOf z) o f) → ExecSays img n ch r ws
-    unfolding exec putIn _>>=_
-    does-field o f z r i c j =
+    pub does-field : Standing img ws n ch → (o f : ℕ) (z : Ev) (r : Out) → k ≡ Spot o f → Evals img ws ch (x .c) z → r ≡ outOf (putting (resOf z) o f) → ExecSays img n ch r ws
+    unfolding exec _>>=_
+    does-field st o f z r i c j =
         let sp : targeting n (resOf p) (resOf q) ≡ ok (place o f) = spot-is (targeting n (resOf p) (resOf q)) o f (sym e ∙ i) in
         record {
           says = λ s d rest l.
@@ -105,11 +136,14 @@ module _ (img ws : List ℕ) (ch : Chain) (n : ℕ) (x : Node) (w : At img n x) 
               let y = expAt (nodeAt img) (x .c) in
               let tg : targeting n (eval s ch a) (eval s ch b) ≡ ok (place o f) =
               ap (λ (m : Res Value). targeting n m (eval s ch b)) (sym (v .says s d rest l)) ∙ ap (λ (m : Res Value). targeting n (resOf p) m) (sym (u .says s d rest l)) ∙ sp in
+              let is : exec (scriptOf img) s ch (cmdAt (nodeAt img) n) ≡ putIn (s .objects) (eval s ch y) (place o f) =
+              ap (exec (scriptOf img) s ch) field-command
+              ∙ field-is n (s .objects) (eval s ch a) (eval s ch b) (eval s ch y)
+              ∙ ap (λ (m : Res Place). m >>= putIn (s .objects) (eval s ch y)) tg in
               j
               ∙ ap (λ (m : Res Value). outOf (putting m o f)) (c .says s d rest l)
-              ∙ ap (λ (m : Res Place). outOf (m >>= putIn (eval s ch y))) (sym tg)
-              ∙ ap outOf (sym (field-is n (eval s ch a) (eval s ch b) (eval s ch y)))
-              ∙ ap (λ (m : Cmd). outOf (exec (scriptOf img) s ch m)) (sym field-command);
+              ∙ ap outOf (sym (put-there (s .objects) (eval s ch y) o f (λ e. not-stuck img ws n ch st s d rest l (is ∙ e))))
+              ∙ ap outOf (sym is);
         }
 
     pub does-not-field : (z : Stop) (r : Out) → k ≡ NoSpot z → r ≡ Not z → ExecSays img n ch r ws
@@ -123,8 +157,8 @@ module _ (img ws : List ℕ) (ch : Chain) (n : ℕ) (x : Node) (w : At img n x) 
               let tg : targetOf (targeting n (eval s ch a) (eval s ch b)) ≡ NoSpot z =
               ap (λ (m : Res Value). targetOf (targeting n m (eval s ch b))) (sym (v .says s d rest l)) ∙ ap (λ (m : Res Value). targetOf (targeting n (resOf p) m)) (sym (u .says s d rest l)) ∙ sym e ∙ i in
               j
-              ∙ sym (no-spot (targeting n (eval s ch a) (eval s ch b)) (putIn (eval s ch y)) z tg)
-              ∙ ap outOf (sym (field-is n (eval s ch a) (eval s ch b) (eval s ch y)))
+              ∙ sym (no-spot (targeting n (eval s ch a) (eval s ch b)) (putIn (s .objects) (eval s ch y)) z tg)
+              ∙ ap outOf (sym (field-is n (s .objects) (eval s ch a) (eval s ch b) (eval s ch y)))
               ∙ ap (λ (m : Cmd). outOf (exec (scriptOf img) s ch m)) (sym field-command);
         }
 

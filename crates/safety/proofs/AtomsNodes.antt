@@ -76,7 +76,7 @@ module _ (sc : Script) where
   exec-enters s ch (assign n x e) =
       gives-bind (DoesAs ch (assign n x e)) _ _ (λ v. gives-bind (DoesAs ch (assign n x e)) _ _ (λ k. tt))
   exec-enters s ch (assignField n a b c) =
-      gives-bind P _ _ (λ v. gives-bind P _ _ (λ w. gives-bind P _ _ (λ o. gives-bind P _ _ (λ f. gives-bind P _ _ (λ u. tt)))))
+      gives-bind P _ _ (λ v. gives-bind P _ _ (λ w. gives-bind P _ _ (λ o. gives-bind P _ _ (λ f. gives-bind P _ _ (λ u. gives-bind P _ _ (λ vs. gives-bind P _ _ (λ old. tt)))))))
     where
       P : Deed → Type 0
       P = DoesAs ch (assignField n a b c)
