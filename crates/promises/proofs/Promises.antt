@@ -22,11 +22,12 @@ use Rattle.rules.specs.Published.{Bytes, Published}
 use Rattle.rules.specs.State.{Store, empty, mostParts}
 use Rattle.rules.specs.Control.{Control, parts}
 use Rattle.rules.specs.Step.{Outcome, stops, step, miniOO}
-use Rattle.rules.specs.Run.{Ran, ran, scriptOf, rootOf, runScript, answerOf}
+use Rattle.rules.specs.Run.{Ran, ran, goOn, scriptOf, rootOf, runScript, answerOf}
 use Rattle.rules.specs.Layout.{layout}
 use Rattle.rules.specs.Lent.{wordsAfterRun, wordsAfter, rowsAfterRun, rowsAfter}
 use Rattle.rules.specs.Paper.{Makes}
-use Rattle.rules.proofs.Reasons.{First, refused-only, refused-if}
+use Rattle.rules.specs.First.{First}
+use Rattle.rules.proofs.Reasons.{refused-only, refused-if}
 use Rattle.rules.proofs.Accept.{accepted-published, published-accepted}
 use Rattle.rules.proofs.Good.{roomy}
 use Rattle.rules.proofs.Agree.{paper-if, paper-only}
@@ -35,12 +36,13 @@ use Rattle.words.proofs.Starting.{start-zeros}
 use Rattle.safety.specs.Reaches.{Moment, begins}
 use Rattle.safety.specs.Fits.{EndFits}
 use Rattle.safety.specs.Rooms.{ForRoom}
-use Rattle.safety.proofs.Zero.{Numbered, no-answer-is-zero}
+use Rattle.safety.specs.Numbered.{Numbered}
+use Rattle.safety.proofs.Zero.{no-answer-is-zero}
 use Rattle.safety.proofs.ReachesMoments.{run-moment}
 use Rattle.safety.proofs.Ends.{Left}
 use Rattle.holds.specs.Says.{FaceSays}
 use Rattle.promises.proofs.Answers.{refused-answer, answer-refused, accepted-answer, answer-end, answer-steps}
-use Rattle.promises.proofs.LastStep.{last-step, last-words, too-large, reached}
+use Rattle.promises.proofs.LastStep.{last-step, last-words, too-large, reached, started}
 -- demand 3, at every moment of the run of an accepted script, sentence by sentence
 pub use Rattle.safety.proofs.Demand3.{needed-name-is-found, found-frame-is-newest, waiting-name-is-found, body-name-is-found, held-object-exists, held-procedure-exists, nothing-is-never-held, only-the-entered-block-moves, only-inside-an-entered-atom, run-ends-as-said, room-only-when-needed, room-when-needed}
 
@@ -113,6 +115,14 @@ module _ (script choices lent : List ℕ) (are-bytes : Bytes script) where
         → Left (miniOO (scriptOf script)) choices 0 empty (some (begins (miniOO (scriptOf script)) (rootOf script))) (runScript script choices)
     demand-1-reached h = reached script choices h
 
+    -- .. so a stop with 0 steps leaves the start state: no frame, no object, and the root opened
+    pub demand-1-no-step : parts (begins (miniOO (scriptOf script)) (rootOf script)) ≤ mostParts → (e : End) → answer ≡ Ending e 0
+        → wordsAfter script choices lent ≡ layout empty (some (begins (miniOO (scriptOf script)) (rootOf script))) ++ drop size lent
+    unfolding wordsAfter wordsAfterRun ran
+    demand-1-no-step h e f =
+        demand-1-last-step e 0 f .0
+        ∙ rw accepted (ap (λ (r : Ran Store). layout (r .store) (r .control) ++ drop size lent) (started script h))
+
     -- a root that has more than 255 parts as opened: room 3 with 0 steps, and the workspace is zero throughout its size
     pub demand-1-too-large : mostParts < parts (begins (miniOO (scriptOf script)) (rootOf script))
         → (answer ≡ Ending (Stopped (Full 3)) 0) × (wordsAfter script choices lent ≡ replicate size 0 ++ drop size lent)
@@ -144,7 +154,7 @@ module _ (script choices lent : List ℕ) (are-bytes : Bytes script) where
     demand-3-left h = run-moment (scriptOf script) (rootOf script) choices h
 
 -- each shorter list of choices has its own state, and the run goes on from there; a run that has ended stays as it is
-pub demand-2-shorter : (script first later : List ℕ) → runScript script (first ++ later) ≡ Runs.goOn (miniOO (scriptOf script)) later (runScript script first)
+pub demand-2-shorter : (script first later : List ℕ) → runScript script (first ++ later) ≡ goOn (miniOO (scriptOf script)) later (runScript script first)
 demand-2-shorter script first later = Runs.script-goes-on script first later
 
 -- where the choices are used up, the count of steps is theirs

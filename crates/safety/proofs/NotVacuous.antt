@@ -1,8 +1,7 @@
 -- The invariant of demand 3 isn't vacuous. Worked cases of document 01 are accepted, by computing, and made of bytes; so
--- they are safe at every moment, and the state of three such moments is written out. And `Safe` is false of a state
--- whose one command has a chain with no such frame, of one with a cell that holds an object with no such number, and of
--- one with two atoms entered side by side.
--- Assumes nothing.
+-- they are safe at every moment, and the state of some such moments is written out, one of them before a step that enters
+-- an atom. And `Safe` is false of a state whose one command has a chain with no such frame, of one with a cell that holds
+-- an object with no such number, and of one with two atoms entered side by side. Assumes nothing.
 use Prim.Native.Nat.{ℕ, zero, suc, _<_, _≤_}
 use mathlib.Core.Path.{_≡_, refl, sym, subst}
 use mathlib.Core.Bool.{Bool, true, false, _&&_}
@@ -27,8 +26,9 @@ use Rattle.rules.specs.Opens.{opens}
 use Rattle.rules.specs.Cases.{recursive, inAtom, ownStacks}
 use Rattle.safety.specs.Safe.{FitCmd, Real, Safe}
 use Rattle.safety.specs.Reaches.{begins}
+use Rattle.safety.specs.Atoms.{Sealed, AtomMoves}
 use Rattle.safety.proofs.ReachesMoments.{run-moment}
-use Rattle.safety.proofs.Demand3.{At, always-safe}
+use Rattle.safety.proofs.Demand3.{At, always-safe, only-the-entered-block-moves}
 
 -- ---- a list of bytes, by computing
 
@@ -109,6 +109,22 @@ h-accepted = refl
 pub h-third : Safe (scriptOf inAtom) (framesOnly (frame 0 Empty (Int 0) ∷ [])) (some (beside (entered (followed (command 5 (From 0)) 9 (From 0))) (command 14 (From 0))))
 unfolding opens begins
 h-third = left-safe inAtom h-bytes h-accepted (omega arith) (0 ∷ 0 ∷ 0 ∷ [])
+
+-- .. by the third step, which moves the atom at node 11: so from there on only that block moves, until it is left
+h-before : At size inAtom h-bytes h-accepted (0 ∷ 0 ∷ []) (framesOnly (frame 0 Empty (Int 0) ∷ [])) (some (beside (command 11 (From 0)) (command 14 (From 0))))
+unfolding opens begins runScript
+h-before = run-moment (scriptOf inAtom) (rootOf inAtom) (0 ∷ 0 ∷ []) (omega arith)
+
+h-atom-moves : AtomMoves (scriptOf inAtom) (beside (command 11 (From 0)) (command 14 (From 0))) 0 10 (From 0)
+unfolding opens
+h-atom-moves = record { node = 11; picks = refl; number = 11; inner = scriptOf inAtom .cmdAt 10; is = refl; inside = refl }
+
+pub h-sealed : Sealed (miniOO (scriptOf inAtom)) (beside (command 11 (From 0)) (command 14 (From 0))) 0 10 (From 0)
+    (framesOnly (frame 0 Empty (Int 0) ∷ [])) (some (beside (entered (followed (command 5 (From 0)) 9 (From 0))) (command 14 (From 0))))
+unfolding opens
+h-sealed =
+    only-the-entered-block-moves size inAtom h-bytes h-accepted (0 ∷ 0 ∷ []) (framesOnly (frame 0 Empty (Int 0) ∷ []))
+    (beside (command 11 (From 0)) (command 14 (From 0))) h-before 0 10 (From 0) h-atom-moves _ _ refl
 
 -- ---- case k: `{var x; x = 1 || var x; x = 2}`: the root fits, by computing alone
 

@@ -24,10 +24,10 @@ use Rattle.safety.specs.Needs.{needs}
 use Rattle.safety.specs.Found.{Borne, HeldIn}
 use Rattle.safety.specs.Fits.{EndFits}
 use Rattle.safety.specs.Reaches.{begins, Moment}
-use Rattle.safety.specs.Atoms.{Sealed, AtomMoves}
+use Rattle.safety.specs.Atoms.{Innermost, Sealed, AtomMoves}
 use Rattle.safety.proofs.LinksNeeded.{names-found, held-exists, never-nothing}
 use Rattle.safety.proofs.Ends.{Left, run-leaves}
-use Rattle.safety.proofs.AtomsInside.{Innermost, innermost, others-wait}
+use Rattle.safety.proofs.AtomsInside.{innermost, others-wait}
 use Rattle.safety.proofs.AtomsNodes.{only-that-atom-moves}
 use Rattle.safety.proofs.Preserved.{start-safe, reaches-safe, ready-at, run-sound}
 

@@ -35,6 +35,7 @@ use Rattle.rules.proofs.Reasons.{refusal-number}
 use Rattle.rules.proofs.Good.{good}
 use Rattle.rules.proofs.Trees.{treeAt-is}
 use Rattle.safety.specs.Safe.{FitCmd, Real}
+use Rattle.safety.specs.Numbered.{OneTo, StopNumbered, EndNumbered, Numbered}
 use Rattle.safety.specs.Found.{HeldIn}
 use Rattle.safety.specs.Fits.{EndFits}
 use Rattle.safety.proofs.Accepted.{accepted-fits}
@@ -42,33 +43,10 @@ use Rattle.safety.proofs.Preserved.{ready-at}
 use Rattle.safety.proofs.ReachesMoments as Moments
 use Rattle.safety.proofs.Demand3.{At, always-safe, run-ends-as-said}
 
--- ---- what an answer's numbers are
-
--- a number of a table whose last is m
-abbrev pub OneTo : ℕ → ℕ → Type 0
-OneTo m k = (1 ≤ k) × (k ≤ m)
-
--- one of seven faults, at one of M nodes; one of three rooms
-abbrev pub StopNumbered : ℕ → Stop → Type 0
-StopNumbered M (Faulted k n) = OneTo 7 k × (n < M)
-StopNumbered M (Full k) = OneTo 3 k
-StopNumbered M OutOfRange = Unit {0}
-StopNumbered M NoRule = ⊥
-
-abbrev pub EndNumbered : ℕ → End → Type 0
-EndNumbered M Done = Unit {0}
-EndNumbered M UsedUp = Unit {0}
-EndNumbered M (Stopped r) = StopNumbered M r
-
--- one of ten refusals; one of five ends, and its values
-abbrev pub Numbered : ℕ → Answer → Type 0
-Numbered M (Refusal k p) = OneTo 10 k
-Numbered M (Ending e steps) = OneTo 5 (endNo e) × EndNumbered M e
+-- ---- every answer
 
 between : (m k : ℕ) → T (leb 1 k && leb k m) → OneTo m k
 between m k h = let p = and-yes (leb 1 k) (leb k m) h in (leb→le 1 k (p .0), leb→le k m (p .1))
-
--- ---- every answer
 
 module _ (words : ℕ) (bytes : List ℕ) (are-bytes : Bytes bytes) where
   -- an accepted script's end has a number, and so have its fault, its node and its room

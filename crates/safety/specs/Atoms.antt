@@ -5,6 +5,7 @@
 -- same commands, are a run of the block ALONE, all around stays, and no other command is movable. Assumes nothing.
 use Prim.Native.Nat.{ℕ}
 use mathlib.Core.Path.{_≡_}
+use mathlib.Core.Bool.{false}
 use mathlib.Core.Option.{Option, none, some}
 use mathlib.Core.List.{List, [], _∷_, _++_}
 use lib.ListN.{getElem?}
@@ -12,10 +13,18 @@ use Rattle.rules.specs.Syntax.{Cmd, atom, cmdNo}
 use Rattle.rules.specs.declared.Chain.{Chain}
 use Rattle.rules.specs.declared.Next.the-variants.{Enters}
 use Rattle.rules.specs.Eval.{Script}
-use Rattle.rules.specs.Control.{Control, command, entered, opened, Move, move, movable}
+use Rattle.rules.specs.Control.{Control, command, entered, opened, atomIn, Move, move, movable}
 use Rattle.rules.specs.Step.{Machine, does, plan}
 use Rattle.rules.specs.Around.{Around, plug, fill, Quiet}
 use Rattle.safety.specs.Reaches.{Reaches, stays, goes}
+
+-- the innermost entered atom of a control: none beside it, and none inside
+pub record Innermost (t : Control) : Type 0 where
+  pub around : Around
+  pub inner : Control
+  pub is : t ≡ plug around (entered inner)
+  pub quiet : Quiet around
+  pub calm : atomIn inner ≡ false
 
 module _ {S E : Type 0} (m : Machine S E) where
   -- the commands that moved, one for each choice

@@ -5,3 +5,4 @@ pub mod Fits
 pub mod Reaches
 pub mod Atoms
 pub mod Rooms
+pub mod Numbered
