@@ -1,5 +1,6 @@
--- What the contract of `run` leaves out, by one script, document 01's `var x; x = 1`, lent a workspace of zeros: a run that
--- always says done, one that writes nothing, and one that does all the work at its first step and pads the rest.
+-- What the contract of `run` leaves out already for accepted scripts, by one of them, document 01's `var x; x = 1`, lent a
+-- workspace of zeros: a run that always says done, one that writes nothing, and one that does all the work at its first
+-- step and pads the rest.
 -- Assumes nothing.
 use Prim.Native.Nat.{ℕ}
 use mathlib.Core.Path.{_≡_, refl, sym, ap, _∙_}
@@ -61,22 +62,24 @@ not-done-without-choices = answer-of []
 module _ (says : List ℕ → List ℕ → List ℕ → Answer) (leaves : List ℕ → List ℕ → List ℕ → List ℕ)
     (answers : (script choices lent : List ℕ) → says script choices lent ≡ answerOf (length lent) script choices)
     (writes : (script choices lent : List ℕ) → leaves script choices lent ≡ wordsAfter script choices lent) where
-  pub not-always-done : (steps : List ℕ → List ℕ → ℕ) → ((script choices lent : List ℕ) → says script choices lent ≡ Ending Done (steps script choices)) → ⊥
+  pub not-always-done : (steps : List ℕ → List ℕ → ℕ)
+      → ((script choices lent : List ℕ) → check (length lent) script ≡ Accepted → says script choices lent ≡ Ending Done (steps script choices)) → ⊥
   not-always-done steps all =
-      let e : Ending UsedUp 0 ≡ Ending Done (steps bytes34 []) = sym not-done-without-choices ∙ sym (answers bytes34 [] zeros) ∙ all bytes34 [] zeros in
+      let e : Ending UsedUp 0 ≡ Ending Done (steps bytes34 []) = sym not-done-without-choices ∙ sym (answers bytes34 [] zeros) ∙ all bytes34 [] zeros accepted in
       let z : _≡_ {A = ℕ} 0 1 = cc in
       absurd (omega arith)
 
-  pub not-writing-nothing : ((script choices lent : List ℕ) → leaves script choices lent ≡ lent) → ⊥
+  pub not-writing-nothing : ((script choices lent : List ℕ) → check (length lent) script ≡ Accepted → leaves script choices lent ≡ lent) → ⊥
   not-writing-nothing all =
-      let e : after (0 ∷ []) ≡ zeros = sym (writes bytes34 (0 ∷ []) zeros) ∙ all bytes34 (0 ∷ []) zeros in
+      let e : after (0 ∷ []) ≡ zeros = sym (writes bytes34 (0 ∷ []) zeros) ∙ all bytes34 (0 ∷ []) zeros accepted in
       let z : _≡_ {A = ℕ} 1 0 = sym frames-after-one ∙ ap (λ ws. getD ws 0 9) e ∙ no-frames-lent in
       absurd (omega arith)
 
   -- the first choice alone leaves what all of them leave
-  pub not-all-at-the-first-step : ((script lent later : List ℕ) (first : ℕ) → leaves script (first ∷ []) lent ≡ leaves script (first ∷ later) lent) → ⊥
+  pub not-all-at-the-first-step : ((script lent later : List ℕ) (first : ℕ) → check (length lent) script ≡ Accepted → leaves script (first ∷ []) lent ≡ leaves script (first ∷ later) lent)
+      → ⊥
   not-all-at-the-first-step all =
       let e : after (0 ∷ []) ≡ after (0 ∷ 0 ∷ []) =
-      sym (writes bytes34 (0 ∷ []) zeros) ∙ all bytes34 zeros (0 ∷ []) 0 ∙ writes bytes34 (0 ∷ 0 ∷ []) zeros in
+      sym (writes bytes34 (0 ∷ []) zeros) ∙ all bytes34 zeros (0 ∷ []) 0 accepted ∙ writes bytes34 (0 ∷ 0 ∷ []) zeros in
       let z : _≡_ {A = ℕ} 1 0 = sym parts-after-one ∙ ap (λ ws. getD ws 2 9) e ∙ parts-after-two in
       absurd (omega arith)

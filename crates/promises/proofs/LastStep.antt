@@ -10,7 +10,7 @@ use lib.ListN.{length, take}
 use lib.Dec.{leb}
 use borrow.Author.Tests.{le-leb, lt-leb}
 use Rattle.rules.specs.declared.Chain.the-variants.{Empty}
-use Rattle.rules.specs.declared.End.the-variants.{Stopped}
+use Rattle.rules.specs.declared.End.the-variants.{UsedUp, Stopped}
 use Rattle.rules.specs.declared.Stop.the-variants.{Full}
 use Rattle.rules.specs.Control.{Control, parts, opened, fits}
 use Rattle.rules.specs.Step.{Machine, Outcome, goesTo, stops, step, miniOO}
@@ -93,3 +93,12 @@ reached script choices h =
     let z : leb (parts (begins (miniOO (scriptOf script)) (rootOf script))) mostParts ≡ true =
     le-leb (parts (begins (miniOO (scriptOf script)) (rootOf script))) mostParts h in
     rw z (run-leaves (miniOO (scriptOf script)) choices 0 empty (some (begins (miniOO (scriptOf script)) (rootOf script))))
+
+-- before the first choice: no frame, no object, and the root opened
+pub started : (script : List ℕ) → parts (begins (miniOO (scriptOf script)) (rootOf script)) ≤ mostParts
+    → runScript script [] ≡ ran UsedUp 0 empty (some (begins (miniOO (scriptOf script)) (rootOf script)))
+unfolding runScript run runFrom fits begins
+started script h =
+    let z : leb (parts (begins (miniOO (scriptOf script)) (rootOf script))) mostParts ≡ true =
+    le-leb (parts (begins (miniOO (scriptOf script)) (rootOf script))) mostParts h in
+    rw z
