@@ -7,7 +7,7 @@ const MOST_CHOICES: usize = 4096;
 
 // The traced run and its listing. A workspace of the size, and rows for as many steps as there can be.
 fn list(script: &[u8], choices: &[u8]) {
-    let mut workspace = [0u64; 5378];
+    let mut workspace = [0u64; rules::SIZE];
     let mut rows = [0u32; 20480];
     let answer = interpreter::trace(script, choices, &mut workspace, &mut rows);
     match answer {
