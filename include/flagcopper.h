@@ -22,7 +22,10 @@ extern "C" {
 /* The words of a row: choice, node, tag, frames after the step, objects after the step. */
 #define FLAGCOPPER_ROW 5
 
-/* Zero means nothing in each of these. Places and nodes count from 0.
+/* Where there is no place or no node: both count from 0, so zero is a real one. */
+#define FLAGCOPPER_NOWHERE UINT32_MAX
+
+/* A number of zero means nothing in each of these. Places and nodes count from 0.
  *
  * refusal                                                          place
  *   10  workspace shorter than the size; tested before all others  0
@@ -40,11 +43,11 @@ extern "C" {
  */
 typedef struct {
     uint32_t number; /* 0: accepted */
-    uint32_t place;
+    uint32_t place;  /* FLAGCOPPER_NOWHERE where accepted */
 } flagcopper_checked;
 
 /* end                   number                                   node
- *   1  done             0                                        0
+ *   1  done             0                                        nowhere
  *   2  fault            1 difference of other than integers      where it arose
  *                       2 difference outside 32 signed bits
  *                       3 selection or field assignment on no
@@ -53,13 +56,13 @@ typedef struct {
  *                       5 equal on unlike or unfit kinds
  *                       6 less on other than integers
  *                       7 call of other than a procedure
- *   3  room             1 frames, 2 objects, 3 control           0
- *   4  choices used up  0                                        0
- *   5  choice out of    0                                        0
+ *   3  room             1 frames, 2 objects, 3 control           nowhere
+ *   4  choices used up  0                                        nowhere
+ *   5  choice out of    0                                        nowhere
  *      range
  */
 typedef struct {
-    uint32_t refusal; /* 0: the script was accepted and ran; else all but place is 0 */
+    uint32_t refusal; /* 0: the script was accepted and ran, and place is nowhere; else end, number and steps are 0 */
     uint32_t place;
     uint32_t end;
     uint32_t number;

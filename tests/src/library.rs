@@ -19,6 +19,9 @@ struct RawAnswer {
     steps: usize,
 }
 
+/// What the library says for no place and no node.
+const NOWHERE: u32 = u32::MAX;
+
 extern "C" {
     fn flagcopper_size() -> usize;
     fn flagcopper_check(script: *const u8, len: usize, workspace_words: usize) -> RawVerdict;
@@ -52,7 +55,7 @@ pub struct Library;
 impl Subject for Library {
     fn check(&self, script: &[u8], workspace_words: usize) -> Verdict {
         let raw = unsafe { flagcopper_check(script.as_ptr(), script.len(), workspace_words) };
-        Verdict { number: raw.number, place: raw.place }
+        Verdict { number: raw.number, place: known(raw.place) }
     }
 
     fn run(&self, script: &[u8], choices: &[u8], workspace: &mut [u64]) -> Answer {
@@ -84,13 +87,17 @@ impl Subject for Library {
     }
 }
 
+fn known(number: u32) -> Option<u32> {
+    (number != NOWHERE).then_some(number)
+}
+
 fn answer(raw: RawAnswer) -> Answer {
     Answer {
         refusal: raw.refusal,
-        place: raw.place,
+        place: known(raw.place),
         end: raw.end,
         number: raw.number,
-        node: raw.node,
+        node: known(raw.node),
         steps: raw.steps,
     }
 }

@@ -1,6 +1,7 @@
 //! What is compared: anything that checks and runs scripts as document 01 says, with its answers as numbers.
 //!
-//! The size of the workspace and the numbers are those of docs/; zero means nothing in all of them.
+//! The size of the workspace and the numbers are those of docs/; zero means nothing in all of them. A place or a node,
+//! which count from 0, is `None` where there is none.
 
 /// Words of 8 bytes that a run needs: 3 counts, 1,024 frames, 256 objects of 16 values, 255 parts.
 pub const SIZE: usize = 5_378;
@@ -12,17 +13,17 @@ pub const ROW: usize = 5;
 #[derive(Clone, Copy, Debug, Default, PartialEq, Eq)]
 pub struct Verdict {
     pub number: u32,
-    pub place: u32,
+    pub place: Option<u32>,
 }
 
 /// The answer of a run: a refusal with its place and nothing else, or an end with its number, node and steps.
 #[derive(Clone, Copy, Debug, Default, PartialEq, Eq)]
 pub struct Answer {
     pub refusal: u32,
-    pub place: u32,
+    pub place: Option<u32>,
     pub end: u32,
     pub number: u32,
-    pub node: u32,
+    pub node: Option<u32>,
     pub steps: usize,
 }
 

@@ -112,7 +112,7 @@ fn l_integers_have_32_bits() {
         assert_eq!(run.cell(0), int(i32::MIN));
     }
     for run in wants(&script("var x; x = -2147483648 - 1"), &zeros(2), (2, 2), 1, 1, 0) {
-        assert_eq!(run.answer.node, 2);
+        assert_eq!(run.answer.node, Some(2));
     }
 }
 

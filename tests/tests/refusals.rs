@@ -7,7 +7,7 @@ use flagcopper_tests::subject::{subjects, Answer, Verdict, SIZE};
 /// Wants this verdict of the check, the same refusal of run and trace, and a workspace and rows that nobody wrote.
 fn refused_in(bytes: &[u8], words: usize, number: u32, place: u32) {
     for (name, subject) in subjects() {
-        let verdict = Verdict { number, place };
+        let verdict = Verdict { number, place: Some(place) };
         assert_eq!(subject.check(bytes, words), verdict, "{name}");
         let (mut workspace, mut rows) = (vec![7; words], vec![7; 50]);
         assert_eq!(subject.run(bytes, &[0], &mut workspace), Answer::refused(verdict), "{name}");

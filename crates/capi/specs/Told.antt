@@ -1,6 +1,7 @@
 -- What a caller in C or Rust is told: the answers as numbers, through document 01's numbers and values for each of their
 -- cases (module Numbers of the crate rules). A number that an answer doesn't have is 0, which means nothing there: a
--- refusal has no end, an end no refusal, and only a fault has a node. Assumes nothing.
+-- refusal has no end, an end no refusal. Places and nodes count from 0, so one that an answer doesn't have is
+-- `nowhere`: an accepted script has no place, and only a fault has a node. Assumes nothing.
 use Prim.Native.Nat.{ℕ}
 use mathlib.Core.List.{List}
 use lib.ListN.{getD}
@@ -12,15 +13,22 @@ use Rattle.rules.specs.Numbers.{endNo, endValues, verdictNumbers}
 pub use Rattle.capi.specs.declared.Checked.{Checked}
 pub use Rattle.capi.specs.declared.Told.{Told}
 
--- the entry at a place, and 0 where there is none
-unfoldable pub entry : List ℕ → ℕ → ℕ
-entry values i = getD values i 0
+-- no place and no node: the largest number of 32 bits, far above each
+unfoldable pub nowhere : ℕ
+nowhere = 4294967295
+
+-- a number, which comes first, and the place or node after it
+unfoldable pub numberIn : List ℕ → ℕ
+numberIn values = getD values 0 0
+
+unfoldable pub placeIn : List ℕ → ℕ
+placeIn values = getD values 1 nowhere
 
 -- number 0: accepted
 unfoldable pub checkedOf : Verdict → Checked
-checkedOf v = record { number = entry (verdictNumbers v) 0; place = entry (verdictNumbers v) 1 }
+checkedOf v = record { number = numberIn (verdictNumbers v); place = placeIn (verdictNumbers v) }
 
 unfoldable pub toldOf : Answer → Told
-toldOf (Refusal k p) = record { refusal = k; place = p; end = 0; number = 0; node = 0; steps = 0 }
+toldOf (Refusal k p) = record { refusal = k; place = p; end = 0; number = 0; node = nowhere; steps = 0 }
 toldOf (Ending e n) =
-    record { refusal = 0; place = 0; end = endNo e; number = entry (endValues e) 0; node = entry (endValues e) 1; steps = n }
+    record { refusal = 0; place = nowhere; end = endNo e; number = numberIn (endValues e); node = placeIn (endValues e); steps = n }

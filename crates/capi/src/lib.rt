@@ -14,6 +14,9 @@ ghost use Rattle.rules.specs.Run.{answerOf};
 ghost use Rattle.rules.specs.Lent.{wordsAfter, rowsAfter};
 ghost use Rattle.capi.specs.Told.{checkedOf, toldOf};
 
+// No place and no node: both count from 0, so zero would be a real one.
+const NOWHERE: u32 = 4294967295;
+
 // The answer of the check: number 0 is accepted, any other the reason.
 #[repr(C)]
 pub struct Checked {
@@ -40,7 +43,7 @@ fn say(v: Verdict) -> Checked
     match v {
         Verdict::Accepted => Checked {
             number: 0,
-            place: 0,
+            place: NOWHERE,
         },
         Verdict::Refused(k, p) => Checked {
             number: k,
@@ -55,7 +58,7 @@ fn tell_stop(s: Stop, steps: usize) -> Told
     match s {
         Stop::Faulted(k, n) => Told {
             refusal: 0,
-            place: 0,
+            place: NOWHERE,
             end: 2,
             number: k,
             node: n,
@@ -63,26 +66,26 @@ fn tell_stop(s: Stop, steps: usize) -> Told
         },
         Stop::Full(k) => Told {
             refusal: 0,
-            place: 0,
+            place: NOWHERE,
             end: 3,
             number: k,
-            node: 0,
+            node: NOWHERE,
             steps: steps,
         },
         Stop::OutOfRange => Told {
             refusal: 0,
-            place: 0,
+            place: NOWHERE,
             end: 5,
             number: 0,
-            node: 0,
+            node: NOWHERE,
             steps: steps,
         },
         Stop::NoRule => Told {
             refusal: 0,
-            place: 0,
+            place: NOWHERE,
             end: 0,
             number: 0,
-            node: 0,
+            node: NOWHERE,
             steps: steps,
         },
     }
@@ -94,18 +97,18 @@ fn tell_end(e: End, steps: usize) -> Told
     match e {
         End::Done => Told {
             refusal: 0,
-            place: 0,
+            place: NOWHERE,
             end: 1,
             number: 0,
-            node: 0,
+            node: NOWHERE,
             steps: steps,
         },
         End::UsedUp => Told {
             refusal: 0,
-            place: 0,
+            place: NOWHERE,
             end: 4,
             number: 0,
-            node: 0,
+            node: NOWHERE,
             steps: steps,
         },
         End::Stopped(s) => tell_stop(s, steps),
@@ -121,7 +124,7 @@ fn tell(a: Answer) -> Told
             place: p,
             end: 0,
             number: 0,
-            node: 0,
+            node: NOWHERE,
             steps: 0,
         },
         Answer::Ending(e, n) => tell_end(e, n),
@@ -135,7 +138,7 @@ fn tell(a: Answer) -> Told
 pub extern "C" fn flagcopper_size() -> usize
     ensures { λ r. ⌜ r ≡ sizeOf ⌝ }
 {
-    5378
+    rules::SIZE
 }
 
 // Number 0, or the first reason in the fixed order and its place; `workspace_words` is what a run will be lent.

@@ -14,7 +14,7 @@ pub struct Script {
 }
 
 fn refused<T>(number: u32, place: usize) -> Result<T, Verdict> {
-    Err(Verdict { number, place: place as u32 })
+    Err(Verdict { number, place: Some(place as u32) })
 }
 
 pub fn checked(script: &[u8], workspace_words: usize, wrong: Option<Wrong>) -> Result<Script, Verdict> {

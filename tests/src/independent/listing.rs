@@ -18,7 +18,10 @@ pub fn listing(script: Option<&[u8]>, choices: Option<&[u8]>) -> String {
     }
     let script = match checked(script, SIZE, None) {
         Ok(script) => Rc::new(script),
-        Err(verdict) => return format!("refused {} at {}\n", verdict.number, verdict.place),
+        Err(verdict) => {
+            let place = verdict.place.expect("a refusal has a place");
+            return format!("refused {} at {place}\n", verdict.number);
+        }
     };
     let mut text = String::from("step choice node tag frames objects\n");
     let mut step = 0;

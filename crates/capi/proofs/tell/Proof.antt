@@ -1,7 +1,7 @@
 -- `capi::tell` meets its contract: each arm is a case of the definition. Assumes nothing.
 use mathlib.Core.Path.{sym, ap, _∙_}
 use Rattle.rules.specs.declared.Answer.{Answer}
-use Rattle.capi.specs.Told.{toldOf}
+use Rattle.capi.specs.Told.{nowhere, toldOf}
 use borrow.Author.Needs.{needs}
 use Rattle.capi.proofs.tell.Statement.{statement}
 use Rattle.capi.proofs.tell.Tie as tie
@@ -20,7 +20,7 @@ tell-end-requires c κs = search needs
 
 -- src/lib.rt:67:1
 returns : tie.Need-returns
-unfolding toldOf
+unfolding toldOf nowhere
 returns c = sym (ap (λ (x : Answer). toldOf x) (c .before .a .given .1))
 
 -- src/lib.rt:67:1

@@ -3,7 +3,7 @@ use mathlib.Core.Path.{sym, ap, _∙_}
 use Rattle.rules.specs.declared.End.{End}
 use Rattle.rules.specs.declared.Answer.the-variants.{Ending}
 use Rattle.rules.specs.Numbers.{endNo, endValues}
-use Rattle.capi.specs.Told.{entry, toldOf}
+use Rattle.capi.specs.Told.{nowhere, numberIn, placeIn, toldOf}
 use borrow.Author.Needs.{needs}
 use Rattle.capi.proofs.tell_end.Statement.{statement}
 use Rattle.capi.proofs.tell_end.Tie as tie
@@ -26,12 +26,12 @@ tell-stop-requires c κs = search needs
 
 -- src/lib.rt:57:1
 returns : tie.Need-returns
-unfolding toldOf entry endNo endValues
+unfolding toldOf nowhere numberIn placeIn endNo endValues
 returns c = sym (ap (λ (x : End). toldOf (Ending x (c .before .before .args .steps))) (c .enum-told .given .1))
 
 -- src/lib.rt:57:1
 returns-2 : tie.Need-returns-2
-unfolding toldOf entry endNo endValues
+unfolding toldOf nowhere numberIn placeIn endNo endValues
 returns-2 c = sym (ap (λ (x : End). toldOf (Ending x (c .before .before .args .steps))) (c .enum-told2 .given .1))
 
 -- src/lib.rt:57:1
