@@ -4,6 +4,7 @@
 mod nodes;
 mod uses;
 
+use rules::SIZE;
 use rules::Verdict;
 ghost use mathlib.Core.Path.{_≡_};
 ghost use Prim.Native.Nat.{_+_, _*_, _<_, _≤_};
@@ -14,9 +15,6 @@ ghost use Rattle.rules.specs.Good.{Sized};
 ghost use Rattle.rules.specs.declared.Verdict.the-variants.{Accepted};
 ghost use Rattle.checklaws.specs.Rest.{usesSay, nodesSay, bodiesSay};
 ghost use Rattle.checklaws.specs.Pieces.{refusal, headReason, codeRules, nodeRules, placeSays, rulesSay};
-
-// The size of the workspace in words: 3 counts, 1,024 frames, 256 objects of 16 fields, 255 parts.
-pub const SIZE: usize = 5378;
 
 // ---- 10, 1, 2 and 3
 
