@@ -3,6 +3,7 @@
 // the caller's; each answer, and every word of what is lent, is the definitions'.
 use rules::Answer;
 use rules::End;
+use rules::SIZE;
 use rules::Stop;
 use rules::Verdict;
 ghost use mathlib.Core.Path.{_≡_};
@@ -138,7 +139,7 @@ fn tell(a: Answer) -> Told
 pub extern "C" fn flagcopper_size() -> usize
     ensures { λ r. ⌜ r ≡ sizeOf ⌝ }
 {
-    rules::SIZE
+    SIZE
 }
 
 // Number 0, or the first reason in the fixed order and its place; `workspace_words` is what a run will be lent.

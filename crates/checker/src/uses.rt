@@ -14,6 +14,7 @@ ghost use Rattle.image.specs.Tags.{roleIs};
 ghost use Rattle.checklaws.specs.Pieces.{refusal, useRules, placeSays, rulesSay};
 ghost use Rattle.checklaws.specs.Counts.{Most, Ticks, TicksAll, Counts};
 
+// A count may grow by one where all are at most 65,534, one less than the largest number of 16 bits.
 fn add_one(t: &mut [u16], w: usize)
     requires { ⌜ Most 65534 (now t) ⌝ }
     ensures { λ _. ⌜ now (t .exit) ≡ set (now (t .entry)) w (getD (now (t .entry)) w 0 + 1) ⌝ }
@@ -40,6 +41,8 @@ fn tick(t: &mut [u16], p: Operand, w: usize)
     }
 }
 
+// A node's three words may be the same child, so its count may grow by three; 60,000 leaves room for that, and is more
+// than 2,048 nodes with three children each.
 fn tick_words(t: &mut [u16], x: Node, p: Operand, q: Operand, r: Operand)
     requires { ⌜ Most 60000 (now t) ⌝ }
     ensures { λ _. ⌜ TicksAll (roleIs p) (roleIs q) (roleIs r) x (now (t .entry)) (now (t .exit)) ⌝ }

@@ -1,4 +1,5 @@
 pub mod Upright
+pub mod Settling
 pub mod Deciding
 pub mod Applying
 pub mod Asking

@@ -37,7 +37,8 @@ use Rattle.evallaws.specs.declared.Truth.{Truth}
 use Rattle.evallaws.specs.Answers.{resOf, truthOf}
 use Rattle.evallaws.specs.Says.{Evals, Tests}
 use Rattle.holds.specs.Holds.{Holds}
-use Rattle.holds.proofs.Fitting.{lies, seen-below, seen-code, command-no}
+use Rattle.preorder.proofs.Opening.{cmd-no}
+use Rattle.holds.proofs.Fitting.{lies, seen-below, seen-code}
 use Rattle.deeds.specs.Deeds.{Out, Does, Not, Callee, Held, NotHeld, Target, Spot, NoSpot, Place, place, outOf, calleeOf, targetOf, assigning, allocating, choosing, callee, passing, targeting, putting, Standing, ExecSays}
 use Rattle.rules.specs.Syntax.{noCmd}
 use Rattle.rules.specs.Image.{Tree, isNone, isExp, isTest, isCmd, Row, row, makeBy}
@@ -199,7 +200,7 @@ module _ (img ws : List ℕ) (ch : Chain) (n : ℕ) (x : Node) (w : At img n x) 
                 ∙ ap (λ (d : ℕ). outOf (passing (resOf q) (y .a) dh (y .b) (From d))) (frame-count s o rest ws l)
                 ∙ ap (λ (u : Res Value). outOf (passing u (y .a) dh (y .b) (From (length (s .frames))))) (b .says s o rest l)
                 ∙ ap (λ (d : Node). outOf (passing (eval s ch (expAt (nodeAt img) (x .b))) (d .a) dh (d .b) (From (length (s .frames))))) (a .is)
-                ∙ ap (λ (d : ℕ). outOf (passing (eval s ch (expAt (nodeAt img) (x .b))) (nodeAt img m .a) dh d (From (length (s .frames))))) (sym (command-no (nodeAt img) (nodeAt img m .b)))
+                ∙ ap (λ (d : ℕ). outOf (passing (eval s ch (expAt (nodeAt img) (x .b))) (nodeAt img m .a) dh d (From (length (s .frames))))) (sym (cmd-no (nodeAt img) (nodeAt img m .b)))
                 ∙ ap outOf (sym (call-is img s ch n (expAt (nodeAt img) (x .a)) (expAt (nodeAt img) (x .b)) m (nodeAt img m .a) (cmdAt (nodeAt img) (nodeAt img m .b)) dh (ap (callee n) (sym (v .says s o rest l)) ∙ c) z))
                 ∙ ap (λ (d : Cmd). outOf (exec (scriptOf img) s ch d)) (sym call-command);
           }

@@ -37,7 +37,8 @@ use Rattle.evallaws.specs.declared.Truth.{Truth}
 use Rattle.evallaws.specs.Answers.{resOf, truthOf}
 use Rattle.evallaws.specs.Says.{Evals, Tests}
 use Rattle.holds.specs.Holds.{Holds}
-use Rattle.holds.proofs.Fitting.{lies, seen-below, seen-code, command-no}
+use Rattle.preorder.proofs.Opening.{cmd-no}
+use Rattle.holds.proofs.Fitting.{lies, seen-below, seen-code}
 use Rattle.deeds.specs.Deeds.{Out, Does, Not, Callee, Held, NotHeld, Target, Spot, NoSpot, Place, place, outOf, calleeOf, targetOf, assigning, allocating, choosing, callee, passing, targeting, putting, Standing, ExecSays}
 
 -- ---- a command that stands ready
@@ -157,7 +158,7 @@ module _ (img ws : List ℕ) (ch : Chain) (n : ℕ) (x : Node) (w : At img n x) 
               e
               ∙ ap (λ (k : ℕ). Does (NewFrame (x .a) ch Null) (GoesOn (x .b) (From k))) (frame-count s o rest ws l)
               ∙ ap (λ (y : Node). Does (NewFrame (y .a) ch Null) (GoesOn (y .b) (From (length (s .frames))))) z
-              ∙ ap (λ (k : ℕ). Does (NewFrame (nodeAt img n .a) ch Null) (GoesOn k (From (length (s .frames))))) (sym (command-no (nodeAt img) (nodeAt img n .b)))
+              ∙ ap (λ (k : ℕ). Does (NewFrame (nodeAt img n .a) ch Null) (GoesOn k (From (length (s .frames))))) (sym (cmd-no (nodeAt img) (nodeAt img n .b)))
               ∙ ap (λ (c : Cmd). outOf (exec (scriptOf img) s ch c)) (sym c);
         }
 
@@ -196,7 +197,7 @@ module _ (img ws : List ℕ) (ch : Chain) (n : ℕ) (x : Node) (w : At img n x) 
           says = λ s o rest l.
               e
               ∙ ap (λ (k : Res Bool). outOf (choosing k (Repeats (x .b) n ch) Ended)) (v .says s o rest l)
-              ∙ ap (λ (k : ℕ). outOf (choosing (test (scriptOf img) s ch (testAt (nodeAt img) (x .a))) (Repeats k n ch) Ended)) (sym (command-no (nodeAt img) (x .b)))
+              ∙ ap (λ (k : ℕ). outOf (choosing (test (scriptOf img) s ch (testAt (nodeAt img) (x .a))) (Repeats k n ch) Ended)) (sym (cmd-no (nodeAt img) (x .b)))
               ∙ ap (λ (c : Cmd). outOf (exec (scriptOf img) s ch c)) (sym c);
         }
 
@@ -210,8 +211,8 @@ module _ (img ws : List ℕ) (ch : Chain) (n : ℕ) (x : Node) (w : At img n x) 
           says = λ s o rest l.
               e
               ∙ ap (λ (k : Res Bool). outOf (choosing k (GoesOn (x .b) ch) (GoesOn (x .c) ch))) (v .says s o rest l)
-              ∙ ap (λ (k : ℕ). outOf (choosing (test (scriptOf img) s ch (testAt (nodeAt img) (x .a))) (GoesOn k ch) (GoesOn (x .c) ch))) (sym (command-no (nodeAt img) (x .b)))
-              ∙ ap (λ (k : ℕ). outOf (choosing (test (scriptOf img) s ch (testAt (nodeAt img) (x .a))) (GoesOn (cmdNo (cmdOf (x .b) (treeAt (nodeAt img) (x .b)))) ch) (GoesOn k ch))) (sym (command-no (nodeAt img) (x .c)))
+              ∙ ap (λ (k : ℕ). outOf (choosing (test (scriptOf img) s ch (testAt (nodeAt img) (x .a))) (GoesOn k ch) (GoesOn (x .c) ch))) (sym (cmd-no (nodeAt img) (x .b)))
+              ∙ ap (λ (k : ℕ). outOf (choosing (test (scriptOf img) s ch (testAt (nodeAt img) (x .a))) (GoesOn (cmdNo (cmdOf (x .b) (treeAt (nodeAt img) (x .b)))) ch) (GoesOn k ch))) (sym (cmd-no (nodeAt img) (x .c)))
               ∙ ap (λ (c : Cmd). outOf (exec (scriptOf img) s ch c)) (sym c);
         }
 
@@ -223,5 +224,5 @@ module _ (img ws : List ℕ) (ch : Chain) (n : ℕ) (x : Node) (w : At img n x) 
         subst (λ (y : Node). y .a < n → cmdAt (nodeAt img) n ≡ atom n (cmdAt (nodeAt img) (y .a))) (sym (w .is)) (cmd-atom (nodeAt img) n (tag-is img n x w 42 t)) (fs .0 .0) in
         record {
           says = λ s o rest l.
-              e ∙ ap (λ (k : ℕ). Does Keep (Enters k ch)) (sym (command-no (nodeAt img) (x .a))) ∙ ap (λ (c : Cmd). outOf (exec (scriptOf img) s ch c)) (sym c);
+              e ∙ ap (λ (k : ℕ). Does Keep (Enters k ch)) (sym (cmd-no (nodeAt img) (x .a))) ∙ ap (λ (c : Cmd). outOf (exec (scriptOf img) s ch c)) (sym c);
         }

@@ -38,7 +38,7 @@ use Rattle.evallaws.specs.declared.Truth.{Truth}
 use Rattle.evallaws.specs.Answers.{resOf, truthOf}
 use Rattle.evallaws.specs.Says.{Evals, Tests}
 use Rattle.holds.specs.Holds.{Holds}
-use Rattle.holds.proofs.Fitting.{lies, seen-below, seen-code, command-no}
+use Rattle.holds.proofs.Fitting.{lies, seen-below, seen-code}
 use Rattle.deeds.specs.Deeds.{Out, Does, Not, Callee, Held, NotHeld, Target, Spot, NoSpot, Place, place, outOf, calleeOf, targetOf, assigning, allocating, choosing, callee, passing, targeting, putting, Standing, ExecSays}
 use Rattle.rules.specs.Syntax.{noCmd}
 use Rattle.rules.specs.Image.{Tree, isNone, isExp, isTest, isCmd, Row, row, makeBy}

@@ -43,7 +43,8 @@ pub enum Shape {
     Words(Operand, Operand, Operand),
 }
 
-fn wide(x: u8) -> usize
+// A byte as a number.
+pub fn wide(x: u8) -> usize
     ensures { λ r. ⌜ (r ≡ x) × (r < 256) ⌝ }
 {
     x as usize

@@ -1,4 +1,4 @@
--- Tests taken apart: what two of them joined say of each. Assumes nothing.
+-- Tests taken apart: what two of them joined say of each; and the answer to a question, which is one. Assumes nothing.
 use mathlib.Core.Path.{_≡_, refl}
 use mathlib.Core.Bool.{Bool, true, false, true≢false, false≢true, _&&_, _||_}
 
@@ -15,3 +15,14 @@ or-left a b e = or-neither a b e .0
 
 pub or-right : (a b : Bool) → (a || b) ≡ false → b ≡ false
 or-right a b e = or-neither a b e .1
+
+-- the answer to a question
+abbrev pub Decided : Bool → Type 0 → Type 0
+Decided true A = A
+Decided false A = A → ⊥
+
+pub decided-one : (r q : Bool) (A : Type 0) → Decided r A → Decided q A → r ≡ q
+decided-one true true A a b = refl
+decided-one true false A a b = absurd (b a)
+decided-one false true A a b = absurd (a b)
+decided-one false false A a b = refl

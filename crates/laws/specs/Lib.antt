@@ -1,3 +1,4 @@
+pub mod Backs
 pub mod Bools
 pub mod Course
 pub mod Elems

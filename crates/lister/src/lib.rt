@@ -2,12 +2,13 @@
 // first; then the number of choices is looked at, and only then is the script judged, by the interpreter. An image has
 // at most 10 + 32 + 16,384 bytes: one byte more is enough to refuse a longer file for its length.
 use rules::Answer;
+use rules::SIZE;
 
 const MOST_CHOICES: usize = 4096;
 
 // The traced run and its listing. A workspace of the size, and rows for as many steps as there can be.
 fn list(script: &[u8], choices: &[u8]) {
-    let mut workspace = [0u64; rules::SIZE];
+    let mut workspace = [0u64; SIZE];
     let mut rows = [0u32; 20480];
     let answer = interpreter::trace(script, choices, &mut workspace, &mut rows);
     match answer {

@@ -20,7 +20,7 @@ ghost use Rattle.checklaws.specs.Hands.{Formed, strayWord, growWord, strayAt};
 ghost use Rattle.checklaws.specs.Bits.{bit, Adds, Shows, NameFits, given, givenAll, Shown, Visited};
 
 // The visible names of a node: bit x of lo is name x, bit x of hi is name 64 + x.
-pub struct Held {
+struct Held {
     pub lo: u64,
     pub hi: u64,
 }
