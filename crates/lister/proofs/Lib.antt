@@ -1,1 +1,4 @@
-pub mod Ended
+pub mod RowCount
+pub mod Listed
+pub mod Printed
+pub mod Cut

@@ -3,4 +3,4 @@ pub mod ValueLaws
 pub mod LineLaws
 pub mod EndLaws
 pub mod Example
-pub mod LinesAt
+pub mod Growing

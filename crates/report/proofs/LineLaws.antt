@@ -1,10 +1,9 @@
 -- What the pieces of a line make: one law for each line of the listing. Assumes nothing.
-use Prim.Native.Nat.{ℕ, _+_, _≤_}
-use mathlib.Core.Path.{_≡_, refl, sym, ap, _∙_}
+use Prim.Native.Nat.{ℕ, _≤_}
+use mathlib.Core.Path.{_≡_, refl}
 use mathlib.Core.List.{List, [], _++_}
 use native.Mathlib.Omega.{arith}
-use lib.ListN.{length, take, drop}
-use lib.Seq.{sets, sets-eq, length-sets, take-at}
+use lib.ListN.{length}
 use Rattle.rules.specs.declared.Value.{Value}
 use Rattle.rules.specs.declared.Frame.{Frame}
 use Rattle.rules.specs.Image.{codeAt}
@@ -14,36 +13,26 @@ use Rattle.text.specs.Text.{decimal, further, line, pair, last}
 use Rattle.report.specs.Listing.{headerLine, rowLine, refusedLine, valueWords, cellLine, fieldLine, noInput, choicesTooLong}
 use Rattle.text.specs.Written.{Wrote, Line}
 use Rattle.text.proofs.WroteLaws.{both-wrote, wrote-as}
-
--- what is written from the start of a buffer that has room is a line of it
-pub line-of : (m r : ℕ) (text d o : List ℕ) → Wrote m d 0 text r o → m ≤ length d → Line text d r o
-line-of m r text d o w h =
-    let n : r ≡ length text = omega (arith, w .next) in
-    let i : sets d 0 text ≡ text ++ drop (0 + length text) d = sets-eq text d 0 (omega (arith, w .few)) in
-    let z : 0 + length text ≡ r = omega arith in
-    let e : o ≡ text ++ drop r d = w .is ∙ i ∙ ap (λ (k : ℕ). text ++ drop k d) z in
-    let f : take r o ≡ text = ap (take r) e ∙ take-at text (drop r d) r (sym n) in
-    let l : length o ≡ length d = ap length (w .is) ∙ length-sets d 0 text in
-    record { is = e; long = n; front = f; counts = (omega (arith, w .few), n ∙ ap length (sym f)) }
+use Rattle.text.proofs.LineLaws.{line-of}
 
 module _ (r : ℕ) (d o : List ℕ) (room : 128 ≤ length d) where
-  pub line-as : (m : ℕ) (xs ys : List ℕ) → Wrote m d 0 xs r o → xs ≡ ys → m ≤ 128 → Line ys d r o
-  line-as m xs ys w e l = line-of m r ys d o (wrote-as m m 0 r xs ys d o w e (omega arith)) (omega arith)
+  pub line-as : (m : ℕ) (xs ys : List ℕ) → Wrote m d 0 xs r o → xs ≡ ys → m ≤ 128 → Line 128 ys d r o
+  line-as m xs ys w e l = line-of 128 r ys d o (wrote-as m 128 0 r xs ys d o w e l) room
 
-  pub header-wrote : Wrote 36 d 0 (ascii "step choice node tag frames objects\n") r o → Line headerLine d r o
+  pub header-wrote : Wrote 36 d 0 (ascii "step choice node tag frames objects\n") r o → Line 128 headerLine d r o
   unfolding headerLine line further
   header-wrote w = line-as 36 (ascii "step choice node tag frames objects\n") headerLine w refl (omega arith)
 
-  pub no-input-wrote : Wrote 9 d 0 (ascii "no input\n") r o → Line noInput d r o
+  pub no-input-wrote : Wrote 9 d 0 (ascii "no input\n") r o → Line 128 noInput d r o
   unfolding noInput line further
   no-input-wrote w = line-as 9 (ascii "no input\n") noInput w refl (omega arith)
 
-  pub too-long-wrote : Wrote 17 d 0 (ascii "choices too long\n") r o → Line choicesTooLong d r o
+  pub too-long-wrote : Wrote 17 d 0 (ascii "choices too long\n") r o → Line 128 choicesTooLong d r o
   unfolding choicesTooLong line further
   too-long-wrote w = line-as 17 (ascii "choices too long\n") choicesTooLong w refl (omega arith)
 
   pub refused-wrote : (k p q : ℕ) (e : List ℕ) → Wrote 28 d 0 (pair (ascii "refused") k) q e → Wrote 25 e q (last (ascii " at") p) r o
-      → Line (refusedLine k p) d r o
+      → Line 128 (refusedLine k p) d r o
   unfolding refusedLine line further
   refused-wrote k p q e v w =
       line-as 53 (pair (ascii "refused") k ++ last (ascii " at") p) (refusedLine k p)
@@ -56,7 +45,7 @@ module _ (r : ℕ) (d o : List ℕ) (room : 128 ≤ length d) where
       → Wrote 21 o₃ p₃ (pair [] c) p₄ o₄
       → Wrote 21 o₄ p₄ (pair [] x) p₅ o₅
       → Wrote 22 o₅ p₅ (last [] y) r o
-      → Line (rowLine k (record { choice = a; node = b; tag = c; frames = x; objects = y })) d r o
+      → Line 128 (rowLine k (record { choice = a; node = b; tag = c; frames = x; objects = y })) d r o
   unfolding rowLine rowWords line further
   row-wrote k a b c x y p₁ p₂ p₃ p₄ p₅ o₁ o₂ o₃ o₄ o₅ w₁ w₂ w₃ w₄ w₅ w₆ =
       line-as 126 (decimal k ++ (pair [] a ++ (pair [] b ++ (pair [] c ++ (pair [] x ++ last [] y)))))
@@ -72,7 +61,7 @@ module _ (r : ℕ) (d o : List ℕ) (room : 128 ≤ length d) where
     pub cell-wrote : (k p q : ℕ) (f : Frame) (e u : List ℕ) → Wrote 25 d 0 (pair (ascii "cell") k) p e
         → Wrote 26 e p (pair (ascii " name") (f .name)) q u
         → Wrote 48 u q (further (valueWords s (f .cell))) r o
-        → Line (cellLine s k f) d r o
+        → Line 128 (cellLine s k f) d r o
     unfolding cellLine line further
     cell-wrote k p q f e u v w x =
         line-as 99 (pair (ascii "cell") k ++ (pair (ascii " name") (f .name) ++ further (valueWords s (f .cell)))) (cellLine s k f)
@@ -83,7 +72,7 @@ module _ (r : ℕ) (d o : List ℕ) (room : 128 ≤ length d) where
     pub field-wrote : (n i c p q : ℕ) (v : Value) (e u : List ℕ) → c ≡ codeAt s i → Wrote 27 d 0 (pair (ascii "object") n) p e
         → Wrote 27 e p (pair (ascii " field") c) q u
         → Wrote 48 u q (further (valueWords s v)) r o
-        → Line (fieldLine s n i v) d r o
+        → Line 128 (fieldLine s n i v) d r o
     unfolding fieldLine line further
     field-wrote n i c p q v e u h a b x =
         line-as 102 (pair (ascii "object") n ++ (pair (ascii " field") c ++ further (valueWords s v))) (fieldLine s n i v)

@@ -13,7 +13,7 @@ ghost use Rattle.text.specs.Written.{Line};
 
 fn fault_line(out: &mut [u8], number: u32, node: u32, steps: usize) -> usize
     requires { ⌜ 128 ≤ length (now out) ⌝ }
-    ensures { λ r. ⌜ Line (endLine (Stopped (Faulted number node)) steps) (now (out .entry)) r (now (out .exit)) ⌝ }
+    ensures { λ r. ⌜ Line 128 (endLine (Stopped (Faulted number node)) steps) (now (out .entry)) r (now (out .exit)) ⌝ }
 {
     let a = put_pair(out, 0, b"end 2 fault", number as u64);
     let b = put_pair(out, a, b" node", node as u64);
@@ -22,7 +22,7 @@ fn fault_line(out: &mut [u8], number: u32, node: u32, steps: usize) -> usize
 
 fn room_line(out: &mut [u8], number: u32, steps: usize) -> usize
     requires { ⌜ 128 ≤ length (now out) ⌝ }
-    ensures { λ r. ⌜ Line (endLine (Stopped (Full number)) steps) (now (out .entry)) r (now (out .exit)) ⌝ }
+    ensures { λ r. ⌜ Line 128 (endLine (Stopped (Full number)) steps) (now (out .entry)) r (now (out .exit)) ⌝ }
 {
     let a = put_pair(out, 0, b"end 3 room", number as u64);
     put_last(out, a, b" steps", steps as u64)
@@ -30,7 +30,7 @@ fn room_line(out: &mut [u8], number: u32, steps: usize) -> usize
 
 fn stop_line(out: &mut [u8], s: Stop, steps: usize) -> usize
     requires { ⌜ 128 ≤ length (now out) ⌝ }
-    ensures { λ r. ⌜ Line (endLine (Stopped s) steps) (now (out .entry)) r (now (out .exit)) ⌝ }
+    ensures { λ r. ⌜ Line 128 (endLine (Stopped s) steps) (now (out .entry)) r (now (out .exit)) ⌝ }
 {
     match s {
         Stop::Faulted(k, n) => fault_line(out, k, n, steps),
@@ -42,7 +42,7 @@ fn stop_line(out: &mut [u8], s: Stop, steps: usize) -> usize
 
 pub fn end_line(out: &mut [u8], e: End, steps: usize) -> usize
     requires { ⌜ 128 ≤ length (now out) ⌝ }
-    ensures { λ r. ⌜ Line (endLine e steps) (now (out .entry)) r (now (out .exit)) ⌝ }
+    ensures { λ r. ⌜ Line 128 (endLine e steps) (now (out .entry)) r (now (out .exit)) ⌝ }
 {
     match e {
         End::Done => put_last(out, 0, b"end 1 steps", steps as u64),

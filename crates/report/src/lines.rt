@@ -15,7 +15,7 @@ ghost use Rattle.text.specs.Written.{Line};
 
 pub fn header_line(out: &mut [u8]) -> usize
     requires { ⌜ 128 ≤ length (now out) ⌝ }
-    ensures { λ r. ⌜ Line headerLine (now (out .entry)) r (now (out .exit)) ⌝ }
+    ensures { λ r. ⌜ Line 128 headerLine (now (out .entry)) r (now (out .exit)) ⌝ }
 {
     put_text(out, 0, b"step choice node tag frames objects\n")
 }
@@ -31,7 +31,7 @@ pub fn row_line(
     objects: u32,
 ) -> usize
     requires { ⌜ 128 ≤ length (now out) ⌝ }
-    ensures { λ r. ⌜ Line (rowLine step (record { choice = choice; node = node; tag = tag; frames = frames; objects = objects })) (now (out .entry)) r (now (out .exit)) ⌝ }
+    ensures { λ r. ⌜ Line 128 (rowLine step (record { choice = choice; node = node; tag = tag; frames = frames; objects = objects })) (now (out .entry)) r (now (out .exit)) ⌝ }
 {
     let a = put_decimal(out, 0, step as u64);
     let b = put_pair(out, a, b"", choice as u64);
@@ -44,7 +44,7 @@ pub fn row_line(
 // The cell of frame k.
 pub fn cell_line(out: &mut [u8], img: &[u8], k: u32, f: Frame) -> usize
     requires { ⌜ 128 ≤ length (now out) ⌝ }
-    ensures { λ r. ⌜ Line (cellLine (now (img .entry)) k f) (now (out .entry)) r (now (out .exit)) ⌝ }
+    ensures { λ r. ⌜ Line 128 (cellLine (now (img .entry)) k f) (now (out .entry)) r (now (out .exit)) ⌝ }
 {
     let name = f.name;
     let cell = f.cell;
@@ -56,7 +56,7 @@ pub fn cell_line(out: &mut [u8], img: &[u8], k: u32, f: Frame) -> usize
 // Object o, the field at position i from 0.
 pub fn field_line(out: &mut [u8], img: &[u8], o: u32, i: u32, v: Value) -> usize
     requires { ⌜ 128 ≤ length (now out) ⌝ }
-    ensures { λ r. ⌜ Line (fieldLine (now (img .entry)) o i v) (now (out .entry)) r (now (out .exit)) ⌝ }
+    ensures { λ r. ⌜ Line 128 (fieldLine (now (img .entry)) o i v) (now (out .entry)) r (now (out .exit)) ⌝ }
 {
     let code = code_at(img, i);
     let a = put_pair(out, 0, b"object", o as u64);
@@ -66,7 +66,7 @@ pub fn field_line(out: &mut [u8], img: &[u8], o: u32, i: u32, v: Value) -> usize
 
 pub fn refused_line(out: &mut [u8], number: u32, place: u32) -> usize
     requires { ⌜ 128 ≤ length (now out) ⌝ }
-    ensures { λ r. ⌜ Line (refusedLine number place) (now (out .entry)) r (now (out .exit)) ⌝ }
+    ensures { λ r. ⌜ Line 128 (refusedLine number place) (now (out .entry)) r (now (out .exit)) ⌝ }
 {
     let a = put_pair(out, 0, b"refused", number as u64);
     put_last(out, a, b" at", place as u64)
@@ -74,14 +74,14 @@ pub fn refused_line(out: &mut [u8], number: u32, place: u32) -> usize
 
 pub fn no_input(out: &mut [u8]) -> usize
     requires { ⌜ 128 ≤ length (now out) ⌝ }
-    ensures { λ r. ⌜ Line noInput (now (out .entry)) r (now (out .exit)) ⌝ }
+    ensures { λ r. ⌜ Line 128 noInput (now (out .entry)) r (now (out .exit)) ⌝ }
 {
     put_text(out, 0, b"no input\n")
 }
 
 pub fn choices_too_long(out: &mut [u8]) -> usize
     requires { ⌜ 128 ≤ length (now out) ⌝ }
-    ensures { λ r. ⌜ Line choicesTooLong (now (out .entry)) r (now (out .exit)) ⌝ }
+    ensures { λ r. ⌜ Line 128 choicesTooLong (now (out .entry)) r (now (out .exit)) ⌝ }
 {
     put_text(out, 0, b"choices too long\n")
 }

@@ -1,9 +1,20 @@
--- A row of the lent rows: five words, as a traced run wrote them (module Lent of the crate rules). Assumes nothing.
-use Prim.Native.Nat.{ℕ, _+_, _*_}
-use mathlib.Core.List.{List}
+-- What stands in the lent rows and in the words of a workspace, as lists: the rows that a traced run wrote (module Lent of
+-- the crate rules), the frames, the objects. Said of any words; that they are those of a state that lies in the words is
+-- proved (proofs/OfState). And the text of a run made of them. Assumes nothing.
+use Prim.Native.Nat.{ℕ, zero, suc, _+_, _*_, _-_, _%_, _^_}
+use mathlib.Core.List.{List, [], _∷_, _++_, flatten}
 use lib.ListN.{getD}
+use Rattle.rules.specs.declared.Value.{Value}
+use Rattle.rules.specs.declared.Frame.{Frame}
+use Rattle.rules.specs.declared.End.{End}
+use Rattle.rules.specs.Image.{fieldsOf}
 use Rattle.rules.specs.Rows.{StepRow}
+use Rattle.words.specs.Decode.{valueOf, frameOf}
+use Rattle.report.specs.Listing.{headerLine, rowLines, endLine, cellLines, objectLines}
 
+-- ---- one entry
+
+-- row i, from 0: five words
 abbrev pub rowIn : List ℕ → ℕ → StepRow
 rowIn rows i =
     record {
@@ -13,3 +24,55 @@ rowIn rows i =
       frames = getD rows (5 * i + 3) 0;
       objects = getD rows (5 * i + 4) 0;
     }
+
+abbrev pub frameIn : List ℕ → ℕ → Frame
+frameIn ws k = frameOf (getD ws (3 + k) 0)
+
+-- object o, the field at position i from 0; a value has 35 bits
+abbrev pub fieldIn : List ℕ → ℕ → ℕ → Value
+fieldIn ws o i = valueOf (getD ws (1027 + (16 * o + i)) 0 % 2 ^ 35)
+
+-- ---- all of them
+
+-- f 0, f 1, .., f (n − 1)
+unfoldable pub listed : {A : Type 0} → (ℕ → A) → ℕ → List A
+listed f zero = []
+listed f (suc n) = listed f n ++ (f n ∷ [])
+
+-- a count that a word gives, within its limit
+unfoldable pub upTo : ℕ → ℕ → ℕ
+upTo most n = n - (n - most)
+
+unfoldable pub rowsIn : List ℕ → ℕ → List StepRow
+rowsIn rows steps = listed (rowIn rows) steps
+
+-- the first n frames
+unfoldable pub framesUpTo : List ℕ → ℕ → List Frame
+framesUpTo ws n = listed (frameIn ws) n
+
+unfoldable pub framesIn : List ℕ → List Frame
+framesIn ws = framesUpTo ws (upTo 1024 (getD ws 0 0))
+
+-- the first n fields of object o
+unfoldable pub fieldsUpTo : List ℕ → ℕ → ℕ → List Value
+fieldsUpTo ws o n = listed (fieldIn ws o) n
+
+-- every object has the script's fields
+unfoldable pub objectIn : List ℕ → List ℕ → ℕ → List Value
+objectIn script ws o = fieldsUpTo ws o (upTo 16 (fieldsOf script))
+
+-- the first n objects
+unfoldable pub objectsUpTo : List ℕ → List ℕ → ℕ → List (List Value)
+objectsUpTo script ws n = listed (objectIn script ws) n
+
+unfoldable pub objectsIn : List ℕ → List ℕ → List (List Value)
+objectsIn script ws = objectsUpTo script ws (upTo 256 (getD ws 1 0))
+
+-- ---- the text of a run of an accepted script: the listing's order, over what the words say
+
+unfoldable pub runText : List ℕ → List ℕ → List ℕ → End → ℕ → List ℕ
+runText script ws rows e steps =
+    flatten
+    (headerLine
+    ∷ (rowLines 1 (rowsIn rows steps)
+    ++ (endLine e steps ∷ (cellLines script 0 (framesIn ws) ++ objectLines script 0 (objectsIn script ws)))))

@@ -3,19 +3,17 @@
 // the state that lies in the words.
 use store::frames;
 use store::values;
-ghost use mathlib.Core.Path.{_≡_};
-ghost use Prim.Native.Nat.{_+_, _*_, _%_, _^_, _<_, _≤_};
-ghost use lib.ListN.{length, getD};
+ghost use Prim.Native.Nat.{_+_, _*_, _<_, _≤_};
+ghost use lib.ListN.{length};
 ghost use Rattle.report.specs.Listing.{rowLine, cellLine, fieldLine};
 ghost use Rattle.text.specs.Written.{Line};
-ghost use Rattle.words.specs.Decode.{valueOf, frameOf};
-ghost use Rattle.show.specs.Entries.{rowIn};
+ghost use Rattle.show.specs.Entries.{rowIn, frameIn, fieldIn};
 
 // Row i, from 0, is that of step i + 1.
 pub fn row(out: &mut [u8], rows: &[u32], i: usize) -> usize
     requires { ⌜ 128 ≤ length (now out) ⌝ }
     requires { ⌜ 5 * i + 5 ≤ length (now rows) ⌝ }
-    ensures { λ r. ⌜ Line (rowLine (i + 1) (rowIn (now (rows .entry)) i)) (now (out .entry)) r (now (out .exit)) ⌝ }
+    ensures { λ r. ⌜ Line 128 (rowLine (i + 1) (rowIn (now (rows .entry)) i)) (now (out .entry)) r (now (out .exit)) ⌝ }
 {
     let at = 5 * i;
     report::lines::row_line(
@@ -32,7 +30,7 @@ pub fn row(out: &mut [u8], rows: &[u32], i: usize) -> usize
 pub fn cell(out: &mut [u8], script: &[u8], ws: &[u64], k: u32) -> usize
     requires { ⌜ 128 ≤ length (now out) ⌝ }
     requires { ⌜ 3 + k < length (now ws) ⌝ }
-    ensures { λ r. ⌜ Line (cellLine (now (script .entry)) k (frameOf (getD (now (ws .entry)) (3 + k) 0))) (now (out .entry)) r (now (out .exit)) ⌝ }
+    ensures { λ r. ⌜ Line 128 (cellLine (now (script .entry)) k (frameIn (now (ws .entry)) k)) (now (out .entry)) r (now (out .exit)) ⌝ }
 {
     let f = frames::frame_at(ws, k);
     report::lines::cell_line(out, script, k, f)
@@ -43,7 +41,7 @@ pub fn field(out: &mut [u8], script: &[u8], ws: &[u64], o: u32, i: u32) -> usize
     requires { ⌜ 128 ≤ length (now out) ⌝ }
     requires { ⌜ (o < 256) × (i < 16) ⌝ }
     requires { ⌜ 5378 ≤ length (now ws) ⌝ }
-    ensures { λ r. ⌜ Line (fieldLine (now (script .entry)) o i (valueOf (getD (now (ws .entry)) (1027 + (16 * o + i)) 0 % 2 ^ 35))) (now (out .entry)) r (now (out .exit)) ⌝ }
+    ensures { λ r. ⌜ Line 128 (fieldLine (now (script .entry)) o i (fieldIn (now (ws .entry)) o i)) (now (out .entry)) r (now (out .exit)) ⌝ }
 {
     let at = store::OBJECTS + (store::FIELDS * o as usize + i as usize);
     let v = values::value_of(ws[at] % 34359738368);

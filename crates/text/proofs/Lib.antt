@@ -1,3 +1,4 @@
 pub mod WroteLaws
+pub mod LineLaws
 pub mod DecimalLaws
 pub mod SignedLaws

@@ -48,6 +48,16 @@ wrote-as m n at r xs ys d o w e l =
       few = omega (arith, w .few, ap length e);
     }
 
+-- nothing yet
+pub none-wrote : (at : ℕ) (d : List ℕ) → Wrote 0 d at [] at d
+none-wrote at d = record { is = refl; next = omega arith; few = omega arith }
+
+-- one more piece of a text that grows
+pub more-wrote : (m n k at q r : ℕ) (xs ys zs d e o : List ℕ) → Wrote m d at xs q e → Wrote n e q ys r o → zs ≡ xs ++ ys → m + n ≤ k
+    → Wrote k d at zs r o
+more-wrote m n k at q r xs ys zs d e o v w i l =
+    wrote-as (m + n) k at r (xs ++ ys) zs d o (both-wrote m n at q r xs ys d e o v w) (sym i) l
+
 pub pair-wrote : (at p q r n : ℕ) (s d e o u : List ℕ) → Wrote (length s) d at s p e → Wrote 1 e p (32 ∷ []) q o → Wrote 20 o q (decimal n) r u
     → Wrote (length s + 21) d at (pair s n) r u
 pair-wrote at p q r n s d e o u v w x =

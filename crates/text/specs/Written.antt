@@ -12,9 +12,10 @@ pub record Wrote (most : ℕ) (before : List ℕ) (at : ℕ) (text : List ℕ) (
   pub next : r ≡ at + length text
   pub few : length text ≤ most
 
--- the line is the first r bytes of `after`; what stood behind it stands
-pub record Line (text before : List ℕ) (r : ℕ) (after : List ℕ) : Type 0 where
+-- the text, of at most `most` bytes, is the first r bytes of `after`; what stood behind it stands
+pub record Line (most : ℕ) (text before : List ℕ) (r : ℕ) (after : List ℕ) : Type 0 where
   pub is : after ≡ text ++ drop r before
   pub long : r ≡ length text
+  pub few : length text ≤ most
   pub front : take r after ≡ text
   pub counts : Counts r after

@@ -1,0 +1,46 @@
+-- What is printed for two files: a missing one before the number of choices, and that before the script. Assumes nothing.
+use Prim.Native.Nat.{ℕ, _<_, _≤_}
+use mathlib.Core.Path.{_≡_, refl, sym}
+use mathlib.Core.Bool.{Bool, true, false, not}
+use mathlib.Core.Option.{some}
+use mathlib.Core.List.{List}
+use native.Mathlib.Omega.{arith}
+use lib.ListN.{length}
+use borrow.Author.Tests.{le-leb, lt-leb}
+use Rattle.report.specs.Listing.{noInput, choicesTooLong, listing, mostChoices, printed}
+use Rattle.text.specs.Written.{Line}
+use Rattle.text.proofs.LineLaws.{line-same}
+use Rattle.lister.specs.Given.{given}
+
+pub printed-whole : (bytes cs : List ℕ) → length cs ≤ 4096 → printed (some bytes) (some cs) ≡ listing bytes cs
+unfolding printed mostChoices
+printed-whole bytes cs h = rw (le-leb (length cs) 4096 h)
+
+pub printed-long : (bytes cs : List ℕ) → 4096 < length cs → printed (some bytes) (some cs) ≡ choicesTooLong
+unfolding printed mostChoices
+printed-long bytes cs h = rw (lt-leb (length cs) 4096 h)
+
+missing : (b : Bool) → not b ≡ true → b ≡ false
+missing true e = sym e
+missing false e = refl
+
+there : (b : Bool) → not b ≡ false → b ≡ true
+there true e = refl
+there false e = sym e
+
+module _ (found : Bool) (bytes cs : List ℕ) (r : ℕ) (d o : List ℕ) where
+  pub answers-missing : not found ≡ true → Line 128 noInput d r o → Line 1179904 (printed (given found bytes) (given found cs)) d r o
+  unfolding printed
+  answers-missing e w = line-same 128 1179904 r noInput (printed (given found bytes) (given found cs)) d o w (rw (missing found e)) (omega arith)
+
+  pub answers-listing : not found ≡ false → length cs ≤ 4096 → Line 1179904 (listing bytes cs) d r o
+      → Line 1179904 (printed (given found bytes) (given found cs)) d r o
+  answers-listing e h w =
+      line-same 1179904 1179904 r (listing bytes cs) (printed (given found bytes) (given found cs)) d o w
+      (rw (there found e) (sym (printed-whole bytes cs h))) (omega arith)
+
+  pub answers-long : not found ≡ false → 4096 < length cs → Line 128 choicesTooLong d r o
+      → Line 1179904 (printed (given found bytes) (given found cs)) d r o
+  answers-long e h w =
+      line-same 128 1179904 r choicesTooLong (printed (given found bytes) (given found cs)) d o w
+      (rw (there found e) (sym (printed-long bytes cs h))) (omega arith)

@@ -1,0 +1,51 @@
+-- A run has a row for each step that it takes. Assumes nothing.
+use Prim.Native.Nat.{ℕ, suc, _+_}
+use mathlib.Core.Path.{_≡_, refl}
+use mathlib.Core.Bool.{Bool, true, false, cond}
+use mathlib.Core.Option.{Option, none, some}
+use mathlib.Core.List.{List, [], _∷_}
+use native.Mathlib.Omega.{arith}
+use lib.ListN.{length, getElem?}
+use Rattle.rules.specs.declared.Chain.the-variants.{Empty}
+use Rattle.rules.specs.declared.End.the-variants.{Stopped}
+use Rattle.rules.specs.declared.Stop.the-variants.{Full}
+use Rattle.rules.specs.State.{empty}
+use Rattle.rules.specs.Control.{Control, Move, move, movable, opened, fits}
+use Rattle.rules.specs.Step.{Machine, Outcome, goesTo, stops, chosen, plan, follow, step, miniOO}
+use Rattle.rules.specs.Run.{ran, onward, runFrom, run, scriptOf, rootOf, runScript}
+use Rattle.rules.specs.Rows.{rowThen, rowsFrom, rows, stepRow, rowsOf}
+
+module _ {S E A : Type 0} (m : Machine S E) (keep : ℕ → ℕ → S → A) where
+  from : (cs : List ℕ) (k : ℕ) (s : S) (o : Option Control) → runFrom m cs k s o .steps ≡ k + length (rowsFrom m keep cs s o)
+  unfolding runFrom rowsFrom ran
+  from [] k s none = omega arith
+  from [] k s (some t) = omega arith
+  from (i ∷ cs) k s none = omega arith
+  from (i ∷ cs) k s (some t) = go (from cs (suc k)) (getElem? (movable t) i) refl
+    where
+      -- the outcome of the command that was chosen
+      on : ((s′ : S) (o : Option Control) → runFrom m cs (suc k) s′ o .steps ≡ suc k + length (rowsFrom m keep cs s′ o))
+          → (v : Move) (x : Outcome S) → onward (runFrom m cs (suc k)) k s t x .steps ≡ k + length (rowThen keep (rowsFrom m keep cs) i (some v) x)
+      on ih (move n ch) (goesTo s′ o) = unfold onward rowThen in (let e = ih s′ o in omega arith)
+      on ih (move n ch) (stops r) = unfold onward rowThen ran in omega arith
+
+      go : ((s′ : S) (o : Option Control) → runFrom m cs (suc k) s′ o .steps ≡ suc k + length (rowsFrom m keep cs s′ o))
+          → (v : Option Move) → getElem? (movable t) i ≡ v
+          → onward (runFrom m cs (suc k)) k s t (step m s t i) .steps
+          ≡ k + length (rowThen keep (rowsFrom m keep cs) i (getElem? (movable t) i) (step m s t i))
+      go ih none e = unfold step plan chosen follow onward rowThen ran in rw e (omega arith)
+      go ih (some v) e = rw e (on ih v (step m s t i))
+
+  whole : (s : S) (root : ℕ) (cs : List ℕ) → run m s root cs .steps ≡ length (rows m keep s root cs)
+  unfolding run rows ran
+  whole s root cs = go (fits (some (opened (m .cmdAt root) Empty)))
+    where
+      go : (b : Bool)
+          → cond b (runFrom m cs 0 s (some (opened (m .cmdAt root) Empty))) (ran (Stopped (Full 3)) 0 s none) .steps
+          ≡ length (cond b (rowsFrom m keep cs s (some (opened (m .cmdAt root) Empty))) [])
+      go true = let e = from cs 0 s (some (opened (m .cmdAt root) Empty)) in omega arith
+      go false = refl
+
+pub row-count : (bytes cs : List ℕ) → runScript bytes cs .steps ≡ length (rowsOf bytes cs)
+unfolding runScript rowsOf
+row-count bytes cs = whole (miniOO (scriptOf bytes)) (stepRow bytes) empty (rootOf bytes) cs

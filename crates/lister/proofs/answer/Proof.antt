@@ -1,0 +1,28 @@
+-- `lister::answer` meets its contract. One law for each of the three answers. Assumes nothing.
+use Rattle.lister.proofs.Printed.{answers-missing, answers-listing, answers-long}
+use borrow.Author.Needs.{needs}
+use Rattle.lister.proofs.answer.Statement.{statement}
+use Rattle.lister.proofs.answer.Tie as tie
+
+returns : tie.Need-returns
+returns c = search (needs, answers-missing)
+
+returns-2 : tie.Need-returns-2
+returns-2 c = search (needs, answers-listing)
+
+returns-3 : tie.Need-returns-3
+returns-3 c = search (needs, answers-long)
+
+pub answer-spec : {M : Type 1} → statement M
+answer-spec =
+    tie.close
+    (tie.spec
+    (λ c κs. search needs)
+    (λ c. search needs)
+    returns
+    (λ c κs. search needs)
+    (λ c. search needs)
+    returns-2
+    (λ c κs. search needs)
+    (λ c. search needs)
+    returns-3)
