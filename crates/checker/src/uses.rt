@@ -122,11 +122,25 @@ fn lowest_use(img: &[u8], t: &[u16]) -> Verdict
     Verdict::Accepted
 }
 
+// With a fresh list that has room for each node.
+fn uses_in(img: &[u8], t: &mut [u16]) -> Verdict
+    requires { ⌜ Sized (now img) ⌝ }
+    requires { ⌜ Counts (now img) 0 (now t) ⌝ }
+    ensures { λ r. ⌜ r ≡ rulesSay (now (img .entry)) useRules (nodesOf (now (img .entry))) ⌝ }
+{
+    count(img, t);
+    lowest_use(img, t)
+}
+
+// A short script has a short list: clearing the long one would take longer than all the rest of its check.
 pub fn all_uses(img: &[u8]) -> Verdict
     requires { ⌜ Sized (now img) ⌝ }
     ensures { λ r. ⌜ r ≡ rulesSay (now (img .entry)) useRules (nodesOf (now (img .entry))) ⌝ }
 {
+    if image::nodes(img) <= 256 {
+        let mut t = [0u16; 256];
+        return uses_in(img, &mut t);
+    }
     let mut t = [0u16; 2048];
-    count(img, &mut t);
-    lowest_use(img, &t)
+    uses_in(img, &mut t)
 }

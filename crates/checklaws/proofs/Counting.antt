@@ -12,7 +12,7 @@ use lib.Seq.{getD-set-same, getD-set-other}
 use lib.Dec.{eqb}
 use borrow.Author.Tests.{eq-eqb, ne-eqb}
 use Rattle.rules.specs.declared.Node.{Node}
-use Rattle.rules.specs.Image.{Kind, Role, unused, index, half, uses, binds, child, Row, row, rowOf, nodeAt}
+use Rattle.rules.specs.Image.{Kind, Role, unused, index, half, uses, binds, child, Row, row, rowOf, nodesOf, nodeAt}
 use Rattle.rules.specs.Refusals.{hit, hits, usesOf}
 use Rattle.image.specs.Tags.{roles, rolesOf}
 use Rattle.checklaws.specs.Counts.{Most, Ticks, TicksAll, Counts}
@@ -130,18 +130,18 @@ module _ (s : List ℕ) where
     where
       go : (k : ℕ) → getD t k 0 ≤ 60000
       go k =
-          elim (decLt k 2048) [
+          elim (decLt k (length t)) [
             | yes i ↦ let e = h .counts k i in let x = uses-small k n in omega arith
             | no f ↦
-                let e = h .long in
                 let z : getD t k 0 ≡ 0 = List·getD-eq-default t 0 (omega arith) in
                 omega arith
           ]
 
-  pub counts-none : Counts s 0 (replicate 2048 0)
+  pub counts-none : (z : ℕ) → nodesOf s ≤ z → Counts s 0 (replicate z 0)
   unfolding usesOf
-  counts-none =
-      record { long = length-replicate {A = ℕ} 2048 0; counts = λ k l. getD-replicate {A = ℕ} 2048 k 0 0 l }
+  counts-none z h =
+      let e : length (replicate {A = ℕ} z 0) ≡ z = length-replicate {A = ℕ} z 0 in
+      record { long = omega arith; counts = λ k l. getD-replicate {A = ℕ} z k 0 0 (omega arith) }
 
   one-more : (n : ℕ) (t t′ : List ℕ)
       → Counts s n t
@@ -155,7 +155,7 @@ module _ (s : List ℕ) where
         long = omega arith;
         counts = λ k i.
             let a = f k (omega arith) in
-            let b = h .counts k i in
+            let b = h .counts k (omega arith) in
             rw (add-one n) (omega arith);
       }
 

@@ -1,6 +1,6 @@
 -- Names handed down in two lists of words: all nodes hold none at the start (`shown-none`), and a node that is visited
 -- hands its names on (`visited-row`, `visited-none`). Assumes nothing.
-use Prim.Native.Nat.{ℕ, _+_, _<_}
+use Prim.Native.Nat.{ℕ, _+_, _<_, _≤_}
 use mathlib.Core.Path.{_≡_, refl, sym, ap, subst, _∙_}
 use mathlib.Core.Bool.{Bool, true, false, cond}
 use mathlib.Core.Option.{Option, none, some}
@@ -80,12 +80,13 @@ all-at p q r x v t k l =
 
 -- ---- the start
 
-pub shown-none : (s : List ℕ) → Shown s (nodesOf s) (replicate 2048 0) (replicate 2048 0)
-shown-none s =
+pub shown-none : (s : List ℕ) (z : ℕ) → nodesOf s ≤ z → Shown s (nodesOf s) (replicate z 0) (replicate z 0)
+shown-none s z h =
+    let e : length (replicate {A = ℕ} z 0) ≡ z = length-replicate {A = ℕ} z 0 in
     record {
-      long-lo = length-replicate {A = ℕ} 2048 0;
-      long-hi = length-replicate {A = ℕ} 2048 0;
-      shows = λ k l. rw (handed-none s k, getD-replicate {A = ℕ} 2048 k 0 0 l) shows-none;
+      long-lo = omega arith;
+      long-hi = refl;
+      shows = λ k l. rw (handed-none s k, getD-replicate {A = ℕ} z k 0 0 (omega arith)) shows-none;
     }
 
 pub shown-at : (s : List ℕ) (n m : ℕ) (los his : List ℕ) → n ≡ m → Shown s n los his → Shown s m los his
@@ -160,7 +161,7 @@ module _ (s : List ℕ) (n : ℕ) (l : n < nodesOf s) (x : Node) (is : x ≡ nod
         go binds f = let m = g .sized .few-names in omega arith
         go (child k) f = tt
 
-    module _ (los his los′ his′ : List ℕ) (bad : Bool) (h : Shown s (n + 1) los his) (m : n < 2048) (v : Visited p q r x n los his los′ his′ bad) where
+    module _ (los his los′ his′ : List ℕ) (bad : Bool) (h : Shown s (n + 1) los his) (m : n < length los) (v : Visited p q r x n los his los′ his′ bad) where
       pub stray-row : bad ≡ strayAt s n
       unfolding strayAt
       stray-row =
@@ -168,7 +169,7 @@ module _ (s : List ℕ) (n : ℕ) (l : n < nodesOf s) (x : Node) (is : x ≡ nod
           ∙ sym (stray-role (handed s (n + 1) n) (rowOf (x .tag)) e)
           ∙ rw (← is)
 
-      either : (b : Bool) (k : ℕ) → k < 2048 → Shows (cond b (v .lo) (getD los k 0)) (cond b (v .hi) (getD his k 0)) (cond b (growRow (handed s (n + 1) n) (rowOf (x .tag)) x) (handed s (n + 1) k))
+      either : (b : Bool) (k : ℕ) → k < length los → Shows (cond b (v .lo) (getD los k 0)) (cond b (v .hi) (getD his k 0)) (cond b (growRow (handed s (n + 1) n) (rowOf (x .tag)) x) (handed s (n + 1) k))
       either true k i =
           rw (grow-role (handed s (n + 1) n) (rowOf (x .tag)) e) (v .grows (handed s (n + 1) n) (h .shows n m))
       either false k i = h .shows k i
@@ -177,11 +178,14 @@ module _ (s : List ℕ) (n : ℕ) (l : n < nodesOf s) (x : Node) (is : x ≡ nod
       visited-row =
           let a = h .long-lo in
           let b = h .long-hi in
+          let lo : length los′ ≡ length los = ap length (v .gives-lo) ∙ all-long p q r x (v .lo) los in
+          let hi : length his′ ≡ length his = ap length (v .gives-hi) ∙ all-long p q r x (v .hi) his in
           record {
-            long-lo = ap length (v .gives-lo) ∙ all-long p q r x (v .lo) los ∙ a;
-            long-hi = ap length (v .gives-hi) ∙ all-long p q r x (v .hi) his ∙ b;
+            long-lo = omega arith;
+            long-hi = omega arith;
             shows = λ k i.
+                let j : k < length los = omega arith in
                 rw
                 (v .gives-lo, v .gives-hi, all-at p q r x (v .lo) los k (omega arith), all-at p q r x (v .hi) his k (omega arith), step k, by-role (rowOf (x .tag)) k e)
-                (either (ltb 0 (hit p (x .a) k + hit q (x .b) k + hit r (x .c) k)) k i);
+                (either (ltb 0 (hit p (x .a) k + hit q (x .b) k + hit r (x .c) k)) k j);
           }

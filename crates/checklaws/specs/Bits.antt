@@ -1,13 +1,13 @@
 -- Visible names as bits: names are 0 to 127, so a set of them is two words of 64 bits, and the names that all nodes hold
--- are two lists of words. Assumes nothing.
-use Prim.Native.Nat.{ℕ, _+_, _/_, _%_, _^_, _<_}
+-- are two lists of words, with room for each node. Assumes nothing.
+use Prim.Native.Nat.{ℕ, _+_, _/_, _%_, _^_, _<_, _≤_}
 use mathlib.Core.Path.{_≡_}
 use mathlib.Core.Bool.{Bool, _||_}
 use mathlib.Core.List.{List}
 use lib.ListN.{length, getD, set}
 use lib.Dec.{eqb}
 use Rattle.rules.specs.declared.Node.{Node}
-use Rattle.rules.specs.Image.{Role, unused, index, half, uses, binds, child}
+use Rattle.rules.specs.Image.{Role, unused, index, half, uses, binds, child, nodesOf}
 use Rattle.rules.specs.Scope.{Names, has}
 use Rattle.checklaws.specs.Hands.{strayWord, growWord, handed}
 
@@ -43,9 +43,9 @@ given (child k) w v t = set t w v
 
 -- what the nodes hold once those from n up have handed down
 pub record Shown (s : List ℕ) (n : ℕ) (los his : List ℕ) : Type 0 where
-  pub long-lo : length los ≡ 2048
-  pub long-hi : length his ≡ 2048
-  pub shows : (k : ℕ) → k < 2048 → Shows (getD los k 0) (getD his k 0) (handed s n k)
+  pub long-lo : nodesOf s ≤ length los
+  pub long-hi : length his ≡ length los
+  pub shows : (k : ℕ) → k < length los → Shows (getD los k 0) (getD his k 0) (handed s n k)
 
 -- each child of a node is
 abbrev pub givenAll : Role → Role → Role → Node → ℕ → List ℕ → List ℕ

@@ -1,10 +1,10 @@
--- How the uses of nodes are counted for rule 8: a list with a number for each node. Assumes nothing.
+-- How the uses of nodes are counted for rule 8: a list with a number for each node, and perhaps more. Assumes nothing.
 use Prim.Native.Nat.{ℕ, _+_, _<_, _≤_}
 use mathlib.Core.Path.{_≡_}
 use mathlib.Core.List.{List}
 use lib.ListN.{length, getD}
 use Rattle.rules.specs.declared.Node.{Node}
-use Rattle.rules.specs.Image.{Role}
+use Rattle.rules.specs.Image.{Role, nodesOf}
 use Rattle.rules.specs.Refusals.{hit, usesOf}
 
 -- no number is above b
@@ -25,5 +25,5 @@ pub record TicksAll (p q r : Role) (x : Node) (t t′ : List ℕ) : Type 0 where
 
 -- the uses by the nodes below m
 pub record Counts (s : List ℕ) (m : ℕ) (t : List ℕ) : Type 0 where
-  pub long : length t ≡ 2048
-  pub counts : (k : ℕ) → k < 2048 → getD t k 0 ≡ usesOf s k m
+  pub long : nodesOf s ≤ length t
+  pub counts : (k : ℕ) → k < length t → getD t k 0 ≡ usesOf s k m

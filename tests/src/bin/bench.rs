@@ -1,8 +1,9 @@
 //! Nanoseconds a step of each subject on the same scripts in one run, and the ratio to the independent interpreter; how they
-//! grow with the script; the check a node; and a whole short run with its start-up.
+//! grow with the script; the check a node; a whole short run with its start-up, beside the mere clearing of the workspace.
 //!
 //! A step's time is that of a run less that of the same run without choices, so that the check and the clearing of the
-//! workspace don't count. Each time is the least of several rounds. Without the feature `library` one column is missing.
+//! workspace don't count. Each time is the least of many short rounds, and what is compared takes turns, round by round:
+//! what slows the machine down for a while slows all of it. Without the feature `library` one column is missing.
 
 use flagcopper_tests::encode::*;
 use flagcopper_tests::image::Image;
@@ -11,20 +12,31 @@ use flagcopper_tests::subject::{subjects, Subject, SIZE};
 use std::hint::black_box;
 use std::time::{Duration, Instant};
 
-const ROUNDS: usize = 7;
-const ROUND: Duration = Duration::from_millis(20);
+const ROUNDS: usize = 60;
+const ROUND: Duration = Duration::from_millis(2);
 
-/// The least nanoseconds of one call.
-fn least(mut call: impl FnMut()) -> f64 {
-    let mut round = || {
-        let (start, mut calls) = (Instant::now(), 0);
-        while start.elapsed() < ROUND {
-            call();
-            calls += 1;
+/// How many calls a round has.
+fn calls_a_round(mut call: impl FnMut()) -> u32 {
+    let (start, mut calls) = (Instant::now(), 0);
+    while start.elapsed() < ROUND {
+        call();
+        calls += 1;
+    }
+    calls
+}
+
+/// The least nanoseconds of each of `count` calls, which take turns.
+fn least(count: usize, mut call: impl FnMut(usize)) -> Vec<f64> {
+    let calls: Vec<u32> = (0..count).map(|which| calls_a_round(|| call(which))).collect();
+    let mut times = vec![f64::INFINITY; count];
+    for _ in 0..ROUNDS {
+        for (which, time) in times.iter_mut().enumerate() {
+            let start = Instant::now();
+            (0..calls[which]).for_each(|_| call(which));
+            *time = time.min(start.elapsed().as_nanos() as f64 / f64::from(calls[which]));
         }
-        start.elapsed().as_nanos() as f64 / f64::from(calls)
-    };
-    (0..ROUNDS).map(|_| round()).fold(f64::INFINITY, f64::min)
+    }
+    times
 }
 
 /// Keeps the compiler from leaving a call out.
@@ -39,15 +51,25 @@ struct Bench {
 
 impl Bench {
     /// One line: the time of each subject for each of `count` things, and the ratio of the last to the first.
-    fn line(&mut self, what: &str, count: usize, mut time: impl FnMut(&dyn Subject, &mut [u64]) -> f64) {
-        let times: Vec<f64> =
-            self.subjects.iter().map(|(_, subject)| time(subject.as_ref(), &mut self.workspace)).collect();
+    fn line(&self, what: &str, count: usize, times: &[f64]) {
         print!("{what:<44}{count:>7}");
         times.iter().for_each(|time| print!("{:>14.1}", time / count as f64));
-        if let [first, .., last] = times[..] {
+        if let [first, .., last] = times {
             print!("{:>9.3}", last / first);
         }
         println!();
+    }
+
+    /// The time of a whole run of each subject, then that of the same without choices.
+    fn runs(&mut self, image: &Image, choices: &[u8]) -> (Vec<f64>, Vec<f64>) {
+        let bytes = image.bytes();
+        let (subjects, workspace) = (&self.subjects, &mut self.workspace);
+        let mut whole = least(2 * subjects.len(), |which| {
+            let choices = if which < subjects.len() { choices } else { &[] };
+            seen(subjects[which % subjects.len()].1.run(&bytes, choices, workspace));
+        });
+        let start = whole.split_off(subjects.len());
+        (whole, start)
     }
 
     fn steps(&mut self, what: &str, image: &Image, choices: &[u8]) {
@@ -56,21 +78,36 @@ impl Bench {
         let answers: Vec<_> = answers.collect();
         let first = answers[0];
         assert!(first.steps > 0 && answers.iter().all(|answer| *answer == first), "{what}: {answers:?}");
-        self.line(what, first.steps, |subject, workspace| {
-            let whole = least(|| seen(subject.run(&bytes, choices, workspace)));
-            let start = least(|| seen(subject.run(&bytes, &[], workspace)));
-            whole - start
-        });
+        let (whole, start) = self.runs(image, choices);
+        let steps: Vec<f64> = whole.iter().zip(&start).map(|(whole, start)| whole - start).collect();
+        self.line(what, first.steps, &steps);
     }
 
     fn check(&mut self, what: &str, image: &Image) {
         let bytes = image.bytes();
-        self.line(what, image.nodes.len(), |subject, _| least(|| seen(subject.check(&bytes, SIZE))));
+        let times = least(self.subjects.len(), |which| seen(self.subjects[which].1.check(&bytes, SIZE)));
+        self.line(what, image.nodes.len(), &times);
     }
 
     fn whole(&mut self, what: &str, image: &Image, choices: &[u8]) {
+        let (whole, _) = self.runs(image, choices);
+        self.line(what, 1, &whole);
+    }
+
+    /// A run of one step beside the mere clearing of the workspace and that step.
+    fn shortest(&mut self) {
+        let (image, choices) = (script("skip"), [0]);
+        self.whole("a whole run of one step", &image, &choices);
         let bytes = image.bytes();
-        self.line(what, 1, |subject, workspace| least(|| seen(subject.run(&bytes, choices, workspace))));
+        let (Some((_, last)), workspace) = (self.subjects.last(), &mut self.workspace) else { return };
+        let times = least(3, |which| match which {
+            0 => black_box(&mut workspace[..SIZE]).fill(0),
+            1 => seen(last.run(&bytes, &choices, workspace)),
+            _ => seen(last.run(&bytes, &[], workspace)),
+        });
+        let [clearing, run, start] = times[..] else { return };
+        println!("{:<51}{clearing:>28.1}", "clearing the workspace");
+        println!("{:<51}{:>37.3}", "a run of one step, over clearing and the step", run / (clearing + run - start));
     }
 }
 
@@ -148,6 +185,6 @@ fn main() {
         bench.check(&format!("check a node, {} nodes", 2 * nodes - 1), &in_turn(nodes, &skip()).image(&[], 0));
     }
     bench.check("check a node, the migration", &migration());
-    bench.whole("a whole run of one step", &script("skip"), &[0]);
+    bench.shortest();
     bench.whole("a whole run of the migration", &migration(), &zeros);
 }

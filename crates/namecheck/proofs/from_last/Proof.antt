@@ -7,13 +7,14 @@ use Rattle.rules.specs.Refusals.{orElse}
 use Rattle.rules.specs.Image.{nodesOf}
 use Prim.Native.Nat.{_≤_}
 use Rattle.checklaws.proofs.Formed.{down-start, down, down-end}
-use mathlib.Core.Path.{_≡_, sym, ap, _∙_}
+use mathlib.Core.Path.{_≡_, refl, sym, ap, _∙_}
+use lib.ListN.{length}
 use native.Mathlib.Omega.{arith}
 use Rattle.namecheck.proofs.from_last.Statement.{statement}
 use Rattle.namecheck.proofs.from_last.Tie as tie
 
 abbrev Inv-loop : tie.InvT-loop
-Inv-loop img lo₀ hi₀ n₀ v₀ lo hi n v = ((n ≤ nodesOf img) × Shown img n lo hi) × (orElse (rulesSay img nameRules n) v ≡ rulesSay img nameRules (nodesOf img))
+Inv-loop img lo₀ hi₀ n₀ v₀ lo hi n v = ((n ≤ nodesOf img) × Shown img n lo hi × (length lo ≡ length lo₀) × (length hi ≡ length hi₀)) × (orElse (rulesSay img nameRules n) v ≡ rulesSay img nameRules (nodesOf img))
 
 abbrev μ-loop : tie.MeasureT-loop
 μ-loop img lo₀ hi₀ n₀ v₀ lo hi n v = n
@@ -22,7 +23,7 @@ nodes-requires : tie.Need-nodes-requires Inv-loop μ-loop
 nodes-requires c κs = omega (arith, c .before .before .before .pre .0 .sized .long)
 
 loop-holds : tie.Need-loop-holds Inv-loop μ-loop
-loop-holds c = let e = c .nodes .ensures .0 in ((omega arith, shown-at _ _ _ _ _ (sym e) (c .before .before .before .before .pre .1)), down-start _ _ e)
+loop-holds c = let e = c .nodes .ensures .0 in ((omega arith, shown-at _ _ _ _ _ (sym e) (c .before .before .before .before .pre .1), refl, refl), down-start _ _ e)
 
 sub-n : tie.Need-sub-n Inv-loop μ-loop
 sub-n c = omega arith
@@ -49,13 +50,13 @@ loop-again c =
     let c9 = c5 .before .before .before .before in
     let c14 = c9 .before .before .before .before .before in
     let l = c9 .loop .inv .0 .0 in
-    ((omega arith, c5 .visit .ensures .1), ap (orElse _) (c .lowered .ensures) ∙ down _ _ _ _ _ (c14 .pre .0) (omega arith) (omega arith) (c5 .visit .ensures .0) (c9 .loop .inv .1))
+    ((omega arith, c5 .visit .ensures .1, c5 .visit .kept .1 .0 ∙ c9 .loop .inv .0 .2, c5 .visit .kept .1 .1 .0 ∙ c9 .loop .inv .0 .3), ap (orElse _) (c .lowered .ensures) ∙ down _ _ _ _ _ (c14 .pre .0) (omega arith) (omega arith) (c5 .visit .ensures .0) (c9 .loop .inv .1))
 
 same-length : tie.Need-same-length Inv-loop μ-loop
-same-length c = let a = c .before .before .before .before .before .before .pre .1 .long-lo in let b = c .before .loop .inv .0 .1 .long-lo in omega arith
+same-length c = c .before .loop .inv .0 .2
 
 same-length-2 : tie.Need-same-length-2 Inv-loop μ-loop
-same-length-2 c = let a = c .before .before .before .before .before .before .pre .1 .long-hi in let b = c .before .loop .inv .0 .1 .long-hi in omega arith
+same-length-2 c = c .before .loop .inv .0 .3
 
 returns : tie.Need-returns Inv-loop μ-loop
 returns c = down-end _ _ _ (omega arith) (c .before .loop .inv .1)

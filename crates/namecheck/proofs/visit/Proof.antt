@@ -2,6 +2,7 @@
 -- Assumes nothing.
 use Rattle.image.specs.Tags.{rolesIs}
 use Prim.Native.Nat.{_<_}
+use lib.ListN.{length}
 use Rattle.checklaws.proofs.Handing.{name-fits, stray-none, visited-none, stray-row, visited-row}
 use mathlib.Core.Path.{sym, ap, _∙_}
 use native.Mathlib.Omega.{arith}
@@ -27,7 +28,6 @@ visit-words-requires c κs =
     let c5 = c3 .before .before in
     let c6 = c5 .before in
     let c10 = c6 .before .before .before .before in
-    let z = c10 .pre .0 .sized .few-nodes in
     let a = c10 .pre .1 .1 .long-lo in
     let b = c10 .pre .1 .1 .long-hi in
     ((omega arith, omega arith), name-fits _ _ (c10 .pre .1 .0) _ (c6 .read .ensures .is) _ _ _ (sym (c5 .operands .ensures) ∙ ap rolesIs (c3 .shape .given .1)) (c10 .pre .0))
@@ -53,8 +53,8 @@ returns-2 c =
     let c10 = c8 .before .before in
     let c11 = c10 .before in
     let c15 = c11 .before .before .before .before in
-    let z = c15 .pre .0 .sized .few-nodes in
-    let m : c15 .args .n < 2048 = omega arith in
+    let z = c15 .pre .1 .1 .long-lo in
+    let m : c15 .args .n < length (c15 .args .lo .now) = omega arith in
     let e = sym (c10 .operands .ensures) ∙ ap rolesIs (c8 .shape .given .1) in
     (stray-row _ _ (c15 .pre .1 .0) _ (c11 .read .ensures .is) _ _ _ e _ _ _ _ _ (c15 .pre .1 .1) m (c4 .visit-words .ensures), visited-row _ _ (c15 .pre .1 .0) _ (c11 .read .ensures .is) _ _ _ e _ _ _ _ _ (c15 .pre .1 .1) m (c4 .visit-words .ensures))
 

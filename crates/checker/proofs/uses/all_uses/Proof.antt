@@ -1,31 +1,43 @@
--- `checker::uses::all_uses` meets its contract.
--- Assumes nothing.
+-- `checker::uses::all_uses` meets its contract: either list has room for each node. Assumes nothing.
+use native.Mathlib.Omega.{arith}
 use Rattle.checklaws.proofs.Counting.{counts-none}
 use borrow.Author.Needs.{needs}
 use Rattle.checker.proofs.uses.all_uses.Statement.{statement}
 use Rattle.checker.proofs.uses.all_uses.Tie as tie
 
-slice-aggregate-count : tie.Need-slice-aggregate-count
-slice-aggregate-count c = search needs
+nodes-requires : tie.Need-nodes-requires
+nodes-requires c κs = search needs
 
-count-requires : tie.Need-count-requires
-count-requires c κs = (c .before .before .pre, counts-none _)
+slice-aggregate-uses-in : tie.Need-slice-aggregate-uses-in
+slice-aggregate-uses-in c = search needs
 
-slice-aggregate-lowest-use : tie.Need-slice-aggregate-lowest-use
-slice-aggregate-lowest-use c = search needs
-
-lowest-use-requires : tie.Need-lowest-use-requires
-lowest-use-requires c κs = search needs
+uses-in-requires : tie.Need-uses-in-requires
+uses-in-requires c κs =
+    let c4 = c .before .before .before .before in
+    (c4 .pre, counts-none _ 256 (omega (arith, c .before .before .nodes .ensures .0)))
 
 returns : tie.Need-returns
 returns c = search needs
+
+slice-aggregate-uses-in-2 : tie.Need-slice-aggregate-uses-in-2
+slice-aggregate-uses-in-2 c = search needs
+
+uses-in-requires-2 : tie.Need-uses-in-requires-2
+uses-in-requires-2 c κs =
+    let c4 = c .before .before .before .before in
+    (c4 .pre, counts-none _ 2048 (let z = c4 .pre .few-nodes in omega arith))
+
+returns-2 : tie.Need-returns-2
+returns-2 c = search needs
 
 pub all-uses-spec : {M : Type 1} → statement M
 all-uses-spec =
     tie.close
     (tie.spec
-    slice-aggregate-count
-    count-requires
-    slice-aggregate-lowest-use
-    lowest-use-requires
-    returns)
+    nodes-requires
+    slice-aggregate-uses-in
+    uses-in-requires
+    returns
+    slice-aggregate-uses-in-2
+    uses-in-requires-2
+    returns-2)

@@ -3,13 +3,14 @@
 use Rattle.checklaws.specs.Counts.{Counts}
 use Rattle.rules.specs.Image.{nodesOf}
 use Prim.Native.Nat.{_-_, _≤_}
-use mathlib.Core.Path.{_≡_}
+use mathlib.Core.Path.{_≡_, refl, _∙_}
+use lib.ListN.{length}
 use native.Mathlib.Omega.{arith}
 use Rattle.checker.proofs.uses.count.Statement.{statement}
 use Rattle.checker.proofs.uses.count.Tie as tie
 
 abbrev Inv-loop : tie.InvT-loop
-Inv-loop img t₀ m n₀ t n = ((m ≡ nodesOf img) × (n ≤ m)) × Counts img n t
+Inv-loop img t₀ m n₀ t n = ((m ≡ nodesOf img) × (n ≤ m)) × Counts img n t × (length t ≡ length t₀)
 
 abbrev μ-loop : tie.MeasureT-loop
 μ-loop img t₀ m n₀ t n = m - n
@@ -18,7 +19,7 @@ nodes-requires : tie.Need-nodes-requires Inv-loop μ-loop
 nodes-requires c κs = omega (arith, c .before .before .pre .0 .long)
 
 loop-holds : tie.Need-loop-holds Inv-loop μ-loop
-loop-holds c = ((c .nodes .ensures .0, omega arith), c .before .before .before .pre .1)
+loop-holds c = ((c .nodes .ensures .0, omega arith), c .before .before .before .pre .1, refl)
 
 count-node-requires : tie.Need-count-node-requires Inv-loop μ-loop
 count-node-requires c κs = (c .before .before .before .before .before .before .pre .0, (omega (arith, c .before .before .loop .inv .0 .0), c .before .before .loop .inv .1))
@@ -30,10 +31,10 @@ loop-less : tie.Need-loop-less Inv-loop μ-loop
 loop-less c = omega arith
 
 loop-again : tie.Need-loop-again Inv-loop μ-loop
-loop-again c = ((c .before .before .before .before .before .loop .inv .0 .0, omega arith), c .before .before .count-node .ensures)
+loop-again c = ((c .before .before .before .before .before .loop .inv .0 .0, omega arith), c .before .before .count-node .ensures, c .before .before .count-node .kept .1 .0 ∙ c .before .before .before .before .before .loop .inv .2)
 
 same-length : tie.Need-same-length Inv-loop μ-loop
-same-length c = let a = c .before .before .before .before .before .pre .1 .long in let b = c .before .loop .inv .1 .long in omega arith
+same-length c = c .before .loop .inv .2
 
 returns : tie.Need-returns Inv-loop μ-loop
 returns c = let e : c .before .loop .n ≡ nodesOf (c .before .before .before .before .before .args .img .now) = omega (arith, c .before .loop .inv .0 .0) in rw e at (c .before .loop .inv .1)

@@ -52,14 +52,14 @@ returns-3 c =
     let c2 = c .before .before in
     let c3 = c2 .before in
     let c6 = c3 .before .before .before in
-    once-good _ _ _ (c3 .nodes .ensures .0) (c2 .if1 .left) _ (c6 .pre .1 .1 .counts (c6 .args .n) (let z = c6 .pre .0 .few-nodes in omega arith)) (c .if3 .taken)
+    once-good _ _ _ (c3 .nodes .ensures .0) (c2 .if1 .left) _ (c6 .pre .1 .1 .counts (c6 .args .n) (let z = c6 .pre .1 .1 .long in omega arith)) (c .if3 .taken)
 
 returns-4 : tie.Need-returns-4
 returns-4 c =
     let c2 = c .before .before in
     let c3 = c2 .before in
     let c6 = c3 .before .before .before in
-    once-bad _ _ _ (c3 .nodes .ensures .0) (c2 .if1 .left) _ (c6 .pre .1 .1 .counts (c6 .args .n) (let z = c6 .pre .0 .few-nodes in omega arith)) (c .if3 .left)
+    once-bad _ _ _ (c3 .nodes .ensures .0) (c2 .if1 .left) _ (c6 .pre .1 .1 .counts (c6 .args .n) (let z = c6 .pre .1 .1 .long in omega arith)) (c .if3 .left)
 
 pub use-reason-spec : {M : Type 1} → statement M
 use-reason-spec =
