@@ -1,4 +1,5 @@
 -- `lister::answer` meets its contract. One law for each of the three answers. Assumes nothing.
+use native.Mathlib.Omega.{arith}
 use Rattle.lister.proofs.Printed.{answers-missing, answers-listing, answers-long}
 use borrow.Author.Needs.{needs}
 use Rattle.lister.proofs.answer.Statement.{statement}
@@ -8,10 +9,14 @@ returns : tie.Need-returns
 returns c = search (needs, answers-missing)
 
 returns-2 : tie.Need-returns-2
-returns-2 c = search (needs, answers-listing)
+returns-2 c =
+    let s = c .before .before .before .before .before .before .before .before .before .args in
+    answers-listing (s .found) (s .script .now) (s .choices .now) _ _ _ (c .before .before .before .before .before .if1 .left) (omega arith) (c .before .before .listing .ensures)
 
 returns-3 : tie.Need-returns-3
-returns-3 c = search (needs, answers-long)
+returns-3 c =
+    let s = c .before .before .before .before .before .before .before .before .before .args in
+    answers-long (s .found) (s .script .now) (s .choices .now) _ _ _ (c .before .before .before .before .before .if1 .left) (omega arith) (c .before .before .choices-too-long .ensures)
 
 pub answer-spec : {M : Type 1} → statement M
 answer-spec =
