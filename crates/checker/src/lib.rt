@@ -7,7 +7,7 @@ mod uses;
 use rules::SIZE;
 use rules::Verdict;
 ghost use mathlib.Core.Path.{_≡_};
-ghost use Prim.Native.Nat.{_+_, _*_, _<_, _≤_};
+ghost use Prim.Native.Nat.{_<_, _≤_};
 ghost use lib.ListN.{length};
 ghost use Rattle.rules.specs.Image.{fieldsOf, nodesOf};
 ghost use Rattle.rules.specs.Refusals.{badContents, check};
