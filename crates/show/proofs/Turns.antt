@@ -16,7 +16,7 @@ use Rattle.text.specs.Written.{Wrote}
 use Rattle.text.proofs.WroteLaws.{none-wrote, more-wrote, wrote-as}
 use Rattle.show.specs.Entries.{rowIn, frameIn, fieldIn, listed, upTo, rowsIn, framesUpTo, framesIn, fieldsUpTo, objectIn, objectsUpTo, objectsIn}
 
-pub listed-long : {A : Type 0} (f : ℕ → A) (n : ℕ) → length (listed f n) ≡ n
+listed-long : {A : Type 0} (f : ℕ → A) (n : ℕ) → length (listed f n) ≡ n
 unfolding listed
 listed-long f zero = refl
 listed-long f (suc n) = length-append (listed f n) (f n ∷ []) ∙ rw (listed-long f n, add-one n)
@@ -55,10 +55,13 @@ module _ (at : ℕ) (d : List ℕ) where
         let l = listed-long (rowIn rows) i in
         let z : 1 + length (rowsIn rows i) ≡ i + 1 = omega arith in
         more-wrote (128 * i) 128 (128 * (i + 1)) at next r _ _ _ d e o v w
-        (rw (listed-more (rowIn rows) i) (rows-more (rowsIn rows i) 1 (rowIn rows i) ∙ ap (λ (k : ℕ). flatten (rowLines 1 (rowsIn rows i)) ++ rowLine k (rowIn rows i)) z))
+        (rw (listed-more (rowIn rows) i)
+        (rows-more (rowsIn rows i) 1 (rowIn rows i)
+        ∙ ap (λ (k : ℕ). flatten (rowLines 1 (rowsIn rows i)) ++ rowLine k (rowIn rows i)) z))
         (omega arith)
 
-    pub rows-all : (i steps r : ℕ) (o : List ℕ) → i ≤ steps → steps ≤ i → Wrote (128 * i) d at (flatten (rowLines 1 (rowsIn rows i))) r o
+    pub rows-all : (i steps r : ℕ) (o : List ℕ) → i ≤ steps → steps ≤ i
+        → Wrote (128 * i) d at (flatten (rowLines 1 (rowsIn rows i))) r o
         → Wrote (128 * steps) d at (flatten (rowLines 1 (rowsIn rows steps))) r o
     rows-all i steps r o h l w =
         let e : i ≡ steps = omega arith in
@@ -79,10 +82,13 @@ module _ (at : ℕ) (d : List ℕ) where
         let l = listed-long (frameIn ws) k in
         let z : 0 + length (framesUpTo ws k) ≡ k = omega arith in
         more-wrote (128 * k) 128 (128 * (k + 1)) at next r _ _ _ d e o v w
-        (rw (listed-more (frameIn ws) k) (cells-more script (framesUpTo ws k) 0 (frameIn ws k) ∙ ap (λ (j : ℕ). flatten (cellLines script 0 (framesUpTo ws k)) ++ cellLine script j (frameIn ws k)) z))
+        (rw (listed-more (frameIn ws) k)
+        (cells-more script (framesUpTo ws k) 0 (frameIn ws k)
+        ∙ ap (λ (j : ℕ). flatten (cellLines script 0 (framesUpTo ws k)) ++ cellLine script j (frameIn ws k)) z))
         (omega arith)
 
-    pub cells-all : (n k r : ℕ) (o : List ℕ) → n ≡ getD ws 0 0 → k ≤ 1024 → upTo 1024 n ≡ k → Wrote (128 * k) d at (flatten (cellLines script 0 (framesUpTo ws k))) r o
+    pub cells-all : (n k r : ℕ) (o : List ℕ) → n ≡ getD ws 0 0 → k ≤ 1024 → upTo 1024 n ≡ k
+        → Wrote (128 * k) d at (flatten (cellLines script 0 (framesUpTo ws k))) r o
         → Wrote 131072 d at (flatten (cellLines script 0 (framesIn ws))) r o
     unfolding framesIn
     cells-all n k r o e l z w =
@@ -103,10 +109,13 @@ module _ (at : ℕ) (d : List ℕ) where
           let l = listed-long (fieldIn ws j) i in
           let z : 0 + length (fieldsUpTo ws j i) ≡ i = omega arith in
           more-wrote (128 * i) 128 (128 * (i + 1)) at next r _ _ _ d e o v w
-          (rw (listed-more (fieldIn ws j) i) (fields-more script (fieldsUpTo ws j i) j 0 (fieldIn ws j i) ∙ ap (λ (k : ℕ). flatten (fieldLines script j 0 (fieldsUpTo ws j i)) ++ fieldLine script j k (fieldIn ws j i)) z))
+          (rw (listed-more (fieldIn ws j) i)
+          (fields-more script (fieldsUpTo ws j i) j 0 (fieldIn ws j i)
+          ∙ ap (λ (k : ℕ). flatten (fieldLines script j 0 (fieldsUpTo ws j i)) ++ fieldLine script j k (fieldIn ws j i)) z))
           (omega arith)
 
-      pub fields-all : (n i r : ℕ) (o : List ℕ) → i ≤ 16 → upTo 16 n ≡ i → Wrote (128 * i) d at (flatten (fieldLines script j 0 (fieldsUpTo ws j i))) r o
+      pub fields-all : (n i r : ℕ) (o : List ℕ) → i ≤ 16 → upTo 16 n ≡ i
+          → Wrote (128 * i) d at (flatten (fieldLines script j 0 (fieldsUpTo ws j i))) r o
           → Wrote 2048 d at (flatten (fieldLines script j 0 (fieldsUpTo ws j (upTo 16 n)))) r o
       fields-all n i r o l z w =
           wrote-as (128 * i) 2048 at r _ _ d o w (ap (λ (k : ℕ). flatten (fieldLines script j 0 (fieldsUpTo ws j k))) (sym z)) (omega arith)
@@ -128,7 +137,9 @@ module _ (at : ℕ) (d : List ℕ) where
         let same : flatten (fieldLines script j 0 (fieldsUpTo ws j (upTo 16 F))) ≡ flatten (fieldLines script j 0 (objectIn script ws j)) =
         ap (λ (k : ℕ). flatten (fieldLines script j 0 (fieldsUpTo ws j (upTo 16 k)))) f in
         more-wrote (2048 * j) 2048 (2048 * (j + 1)) at next r _ _ _ d e o v (wrote-as 2048 2048 next r _ _ e o w same (omega arith))
-        (rw (listed-more (objectIn script ws) j) (objects-more script (objectsUpTo script ws j) 0 (objectIn script ws j) ∙ ap (λ (k : ℕ). flatten (objectLines script 0 (objectsUpTo script ws j)) ++ flatten (fieldLines script k 0 (objectIn script ws j))) z))
+        (rw (listed-more (objectIn script ws) j)
+        (objects-more script (objectsUpTo script ws j) 0 (objectIn script ws j)
+        ∙ ap (λ (k : ℕ). flatten (objectLines script 0 (objectsUpTo script ws j)) ++ flatten (fieldLines script k 0 (objectIn script ws j))) z))
         (omega arith)
 
     pub objects-all : (n j r : ℕ) (o : List ℕ) → n ≡ getD ws 1 0 → j ≤ 256 → upTo 256 n ≡ j

@@ -43,13 +43,9 @@ line-same m n r xs ys d o w e l =
     }
 
 module _ (most at : ℕ) (d : List ℕ) where
-  -- all that follows in the buffer, lent to the writer of a line
+  -- all that follows in the buffer is lent to the writer of the line
   rest-is : take (length d - at) (drop at d) ≡ drop at d
   rest-is = let l = length-drop at d in take-all (length d - at) (drop at d) (omega arith)
-
-  -- .. has room for it
-  pub rest-room : at + most ≤ length d → most ≤ length (take (length d - at) (drop at d))
-  rest-room h = let l = length-drop at d in rw rest-is (omega arith)
 
   pub appended : (r : ℕ) (text o : List ℕ) → at + most ≤ length d → Line most text (take (length d - at) (drop at d)) r o
       → Wrote most d at text (at + r) (putMid at (length d - at) d o)
