@@ -2,6 +2,7 @@
 // field of an object from the words. The contracts say exactly which bytes; proofs/OfState says that they are those of
 // the state that lies in the words.
 use store::frames;
+use store::objects;
 use store::values;
 ghost use Prim.Native.Nat.{_+_, _*_, _<_, _≤_};
 ghost use lib.ListN.{length};
@@ -43,7 +44,7 @@ pub fn field(out: &mut [u8], script: &[u8], ws: &[u64], o: u32, i: u32) -> usize
     requires { ⌜ 5378 ≤ length (now ws) ⌝ }
     ensures { λ r. ⌜ Line 128 (fieldLine (now (script .entry)) o i (fieldIn (now (ws .entry)) o i)) (now (out .entry)) r (now (out .exit)) ⌝ }
 {
-    let at = store::OBJECTS + (store::FIELDS * o as usize + i as usize);
+    let at = objects::field_place(o, i);
     let v = values::value_of(ws[at] % 34359738368);
     report::lines::field_line(out, script, o, i, v)
 }

@@ -1,4 +1,4 @@
-use Rattle.show.proofs.SameLines.{field-same}
+use Rattle.show.proofs.SameLines.{field-placed}
 use borrow.Author.Needs.{needs}
 use Rattle.show.proofs.entries.field.Statement.{statement}
 use Rattle.show.proofs.entries.field.Tie as tie
@@ -7,17 +7,9 @@ use Rattle.show.proofs.entries.field.Lts as lts
 use Rattle.report.proofs.lines.field_line.Reads as field-line-reads
 use Rattle.store.proofs.values.value_of.Reads as value-of-reads
 
--- src/entries.rt:40:32
-mul-at : tie.Need-mul-at
-mul-at c = search needs
-
--- src/entries.rt:40:32
-add-at : tie.Need-add-at
-add-at c = search needs
-
--- src/entries.rt:40:14
-add-at-2 : tie.Need-add-at-2
-add-at-2 c = search needs
+-- src/entries.rt:45:14
+field-place-requires : tie.Need-field-place-requires
+field-place-requires c κs = search needs
 
 -- src/entries.rt:41:30
 mul-value-of : tie.Need-mul-value-of
@@ -41,15 +33,13 @@ same-length c = search needs
 
 -- src/entries.rt:34:1
 returns : tie.Need-returns
-returns c = search (needs, field-same)
+returns c = search (needs, field-placed)
 
 pub field-spec : {M : Type 1} → statement M
 field-spec =
     tie.close
     (tie.spec
-    mul-at
-    add-at
-    add-at-2
+    field-place-requires
     mul-value-of
     shared-slice-read-value-of
     value-of-requires
