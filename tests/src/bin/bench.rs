@@ -12,7 +12,7 @@ use flagcopper_tests::subject::{subjects, Subject, SIZE};
 use std::hint::black_box;
 use std::time::{Duration, Instant};
 
-const ROUNDS: usize = 60;
+const ROUNDS: usize = 150;
 const ROUND: Duration = Duration::from_millis(2);
 
 /// How many calls a round has.
