@@ -28,19 +28,22 @@ there : (b : Bool) → not b ≡ false → b ≡ true
 there true e = refl
 there false e = sym e
 
-module _ (found : Bool) (bytes cs : List ℕ) (r : ℕ) (d o : List ℕ) where
-  pub answers-missing : not found ≡ true → Line 128 noInput d r o → Line 1179904 (printed (given found bytes) (given found cs)) d r o
+module _ (found also-found : Bool) (bytes cs : List ℕ) (r : ℕ) (d o : List ℕ) where
+  abbrev text : List ℕ
+  text = printed (given found bytes) (given also-found cs)
+
+  pub answers-no-script : not found ≡ true → Line 128 noInput d r o → Line 1179904 text d r o
   unfolding printed
-  answers-missing e w = line-same 128 1179904 r noInput (printed (given found bytes) (given found cs)) d o w (rw (missing found e)) (omega arith)
+  answers-no-script e w = line-same 128 1179904 r noInput text d o w (rw (missing found e)) (omega arith)
 
-  pub answers-listing : not found ≡ false → length cs ≤ 4096 → Line 1179904 (listing bytes cs) d r o
-      → Line 1179904 (printed (given found bytes) (given found cs)) d r o
-  answers-listing e h w =
-      line-same 1179904 1179904 r (listing bytes cs) (printed (given found bytes) (given found cs)) d o w
-      (rw (there found e) (sym (printed-whole bytes cs h))) (omega arith)
+  pub answers-no-choices : not found ≡ false → not also-found ≡ true → Line 128 noInput d r o → Line 1179904 text d r o
+  unfolding printed
+  answers-no-choices e f w = line-same 128 1179904 r noInput text d o w (rw (there found e, missing also-found f)) (omega arith)
 
-  pub answers-long : not found ≡ false → 4096 < length cs → Line 128 choicesTooLong d r o
-      → Line 1179904 (printed (given found bytes) (given found cs)) d r o
-  answers-long e h w =
-      line-same 128 1179904 r choicesTooLong (printed (given found bytes) (given found cs)) d o w
-      (rw (there found e) (sym (printed-long bytes cs h))) (omega arith)
+  pub answers-listing : not found ≡ false → not also-found ≡ false → length cs ≤ 4096 → Line 1179904 (listing bytes cs) d r o → Line 1179904 text d r o
+  answers-listing e f h w =
+      line-same 1179904 1179904 r (listing bytes cs) text d o w (rw (there found e, there also-found f) (sym (printed-whole bytes cs h))) (omega arith)
+
+  pub answers-long : not found ≡ false → not also-found ≡ false → 4096 < length cs → Line 128 choicesTooLong d r o → Line 1179904 text d r o
+  answers-long e f h w =
+      line-same 128 1179904 r choicesTooLong text d o w (rw (there found e, there also-found f) (sym (printed-long bytes cs h))) (omega arith)

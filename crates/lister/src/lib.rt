@@ -29,11 +29,20 @@ pub fn listing(script: &[u8], choices: &[u8], out: &mut [u8]) -> usize
 
 // What is printed for the two files. A missing file comes first, then the number of choices; only then is the script
 // judged, by the interpreter.
-pub fn answer(found: bool, script: &[u8], choices: &[u8], out: &mut [u8]) -> usize
+pub fn answer(
+    script_found: bool,
+    choices_found: bool,
+    script: &[u8],
+    choices: &[u8],
+    out: &mut [u8],
+) -> usize
     requires { ⌜ 1179904 ≤ length (now out) ⌝ }
-    ensures { λ r. ⌜ Line 1179904 (printed (given found (now (script .entry))) (given found (now (choices .entry)))) (now (out .entry)) r (now (out .exit)) ⌝ }
+    ensures { λ r. ⌜ Line 1179904 (printed (given «script_found» (now (script .entry))) (given «choices_found» (now (choices .entry)))) (now (out .entry)) r (now (out .exit)) ⌝ }
 {
-    if !found {
+    if !script_found {
+        return report::lines::no_input(out);
+    }
+    if !choices_found {
         return report::lines::no_input(out);
     }
     if choices.len() <= MOST_CHOICES {
@@ -57,8 +66,13 @@ fn list_files(script: i32, choices: i32) {
     let mut picks = [0u8; 4097];
     let m = io::read_full(choices, &mut picks);
     let mut out = page();
-    let found = script >= 0 && choices >= 0;
-    let k = answer(found, &bytes[..n], &picks[..m], &mut out);
+    let k = answer(
+        script >= 0,
+        choices >= 0,
+        &bytes[..n],
+        &picks[..m],
+        &mut out,
+    );
     io::write_all(1, &out[..k]);
 }
 
