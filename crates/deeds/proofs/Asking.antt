@@ -13,7 +13,6 @@ use Rattle.rules.specs.Image.{anExp, aTest, kindOf, nodesOf, nodeAt}
 use Rattle.rules.specs.Good.{Good, Sized}
 use Rattle.rules.specs.Layout.{chainCode}
 use Rattle.words.specs.Lies.{Lying}
-use Rattle.words.proofs.Reading.{few-frames, long}
 use Rattle.image.specs.Read.{At}
 use Rattle.evallaws.specs.declared.Ev.{Ev}
 use Rattle.evallaws.specs.Answers.{resOf}
@@ -40,13 +39,6 @@ module _ (img ws : List ℕ) (n : ℕ) (ch : Chain) (st : Standing img ws n ch) 
   -- a node number takes 11 bits
   pub standing-small : n < 2048
   standing-small = let h = standing-node img ws n ch st in let l = standing-good img ws n ch st .sized .few-nodes in omega arith
-
--- the counts of a state that lies in the words
-pub lying-frames : (ws : List ℕ) → Lying ws → getD ws 0 0 ≤ 1024
-lying-frames ws l = few-frames (l .store) (l .control) (l .rest) ws (l .lies)
-
-pub lying-long : (ws : List ℕ) → Lying ws → 5378 ≤ lib.ListN.length ws
-lying-long ws l = omega (arith, long (l .store) (l .control) (l .rest) ws (l .lies))
 
 -- a call, where the chain made next is the code's
 pub does-enter : (img ws : List ℕ) (ch : Chain) (n : ℕ) (x : Node) (w : At img n x) → Standing img ws n ch → x .tag ≡ 33

@@ -73,7 +73,9 @@ fn list_files(script: i32, choices: i32) {
         &picks[..m],
         &mut out,
     );
-    io::write_all(1, &out[..k]);
+    if !io::write_all(1, &out[..k]) {
+        os::fail(b"standard output");
+    }
 }
 
 // The listing of the files at these paths, to standard output. Both are opened before either is read.

@@ -2,3 +2,4 @@ pub mod WroteLaws
 pub mod LineLaws
 pub mod DecimalLaws
 pub mod SignedLaws
+pub mod Determined
