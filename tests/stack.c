@@ -1,5 +1,5 @@
-/* How much stack the check uses: it is run on a stack of its own, filled with a pattern, and the lowest byte that it wrote
- * counts. Built in the repository's root after `rt staticlib capi`:
+/* How much stack the check and a run use: each is called on a stack of its own, filled with a pattern, and the lowest byte
+ * that it wrote counts. Built in the repository's root after `rt staticlib capi`:
  *     cc -Wall -Iinclude tests/stack.c target/staticlib/libcapi.a -o target/stack && target/stack */
 #include "flagcopper.h"
 #include <stdio.h>
@@ -11,7 +11,10 @@ enum { PATTERN = 0xA5, STACK = 1 << 20, NODES = 2048 };
 static unsigned char stack[STACK];
 static uint8_t script[10 + 8 * NODES];
 static size_t script_bytes;
+static unsigned nodes;
+static uint64_t workspace[FLAGCOPPER_SIZE];
 static flagcopper_checked checked;
+static flagcopper_told told;
 static ucontext_t caller, callee;
 
 static void put(size_t at, unsigned word) {
@@ -19,22 +22,66 @@ static void put(size_t at, unsigned word) {
     script[at + 1] = (uint8_t)(word >> 8);
 }
 
-/* `skip` inside nodes - 1 declarations: the deepest script of so many nodes. */
-static void deepest(unsigned nodes) {
+/* Tags of document 01. */
+enum {
+    INTEGER = 2,
+    DIFFERENCE = 3,
+    NULL_VALUE = 4,
+    SELECTION = 6,
+    PROC = 7,
+    EQUAL = 18,
+    VAR = 32,
+    ASSIGN = 35,
+    SKIP = 37,
+    SEQUENCE = 38,
+    IF = 40
+};
+
+/* Adds a node, children first, and answers its number. */
+static unsigned node(unsigned tag, unsigned a, unsigned b, unsigned c) {
+    const unsigned words[4] = {tag, a, b, c};
+    for (size_t i = 0; i < 4; i++) {
+        put(10 + 8 * nodes + 2 * i, words[i]);
+    }
+    return nodes++;
+}
+
+static void begin(void) { nodes = 0; }
+
+/* The contents of a script without fields and with one name; the last node is the root. */
+static void end(void) {
     const unsigned contents[5] = {10, 0, 10, nodes, 1};
-    memset(script, 0, sizeof script);
     for (size_t i = 0; i < 5; i++) {
         put(2 * i, contents[i]);
-    }
-    put(10, 37);
-    for (unsigned n = 1; n < nodes; n++) {
-        put(10 + 8 * n, 32);
-        put(10 + 8 * n + 4, n - 1);
     }
     script_bytes = 10 + 8 * nodes;
 }
 
+/* `skip` inside so many declarations: the deepest command of its nodes. */
+static unsigned declarations(unsigned depth) {
+    unsigned inner = node(SKIP, 0, 0, 0);
+    while (depth-- > 0) {
+        inner = node(VAR, 0, inner, 0);
+    }
+    return inner;
+}
+
+/* Pairs of one tag, one in the left or in the right part of the next, with the same leaf at every end. */
+static unsigned nested(unsigned tag, unsigned leaf, int left, unsigned depth) {
+    unsigned inner = node(leaf, 0, 0, 0);
+    while (depth-- > 0) {
+        unsigned other = node(leaf, 0, 0, 0);
+        inner = left ? node(tag, inner, other, 0) : node(tag, other, inner, 0);
+    }
+    return inner;
+}
+
 static void check(void) { checked = flagcopper_check(script, script_bytes, FLAGCOPPER_SIZE); }
+
+static void run(void) {
+    const uint8_t choices[2] = {0, 0};
+    told = flagcopper_run(script, script_bytes, choices, 2, workspace, FLAGCOPPER_SIZE);
+}
 
 static void nothing(void) {}
 
@@ -53,18 +100,62 @@ static size_t used_by(void (*run)(void)) {
     return STACK - lowest;
 }
 
-static void report(unsigned nodes) {
+static void report_check(void) {
     size_t used = used_by(check);
     printf("the check of %u nodes: %zu bytes, refusal %u\n", nodes, used, (unsigned)checked.number);
 }
 
+static void report_run(const char *what) {
+    size_t used = used_by(run);
+    printf("the run of %s, %u nodes: %zu bytes, refusal %u end %u number %u steps %zu\n", what, nodes, used,
+           (unsigned)told.refusal, (unsigned)told.end, (unsigned)told.number, told.steps);
+}
+
+/* The name's cell is assigned an expression of pairs. */
+static void run_of_expression(const char *what, unsigned tag, unsigned leaf, int left) {
+    begin();
+    unsigned value = nested(tag, leaf, left, (NODES - 3) / 2);
+    node(VAR, 0, node(ASSIGN, 0, value, 0), 0);
+    end();
+    report_run(what);
+}
+
+/* Two procedures with the same deep body are compared. */
+static void run_of_comparison(void) {
+    begin();
+    unsigned one = node(PROC, 0, declarations((NODES - 8) / 2), 0);
+    unsigned two = node(PROC, 0, declarations((NODES - 8) / 2), 0);
+    unsigned test = node(EQUAL, one, two, 0);
+    unsigned yes = node(SKIP, 0, 0, 0), no = node(SKIP, 0, 0, 0);
+    node(IF, test, yes, no);
+    end();
+    report_run("a comparison of procedures");
+}
+
+static void run_of_sequences(unsigned depth) {
+    begin();
+    nested(SEQUENCE, SKIP, 1, depth);
+    end();
+    report_run("sequences, left in left");
+}
+
 int main(void) {
     printf("a function that does nothing: %zu bytes\n", used_by(nothing));
+    begin();
     script_bytes = 0;
-    report(0);
-    deepest(1);
-    report(1);
-    deepest(NODES);
-    report(NODES);
+    report_check();
+    for (unsigned depth = 0; depth < NODES; depth += NODES - 1) {
+        begin();
+        declarations(depth);
+        end();
+        report_check();
+    }
+    run_of_expression("differences, left in left", DIFFERENCE, INTEGER, 1);
+    run_of_expression("differences, right in right", DIFFERENCE, INTEGER, 0);
+    run_of_expression("selections, left in left", SELECTION, NULL_VALUE, 1);
+    run_of_expression("selections, right in right", SELECTION, NULL_VALUE, 0);
+    run_of_comparison();
+    run_of_sequences(254); /* as many as fit */
+    run_of_sequences((NODES - 1) / 2);
     return 0;
 }

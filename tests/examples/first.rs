@@ -3,8 +3,9 @@
 use flagcopper_tests::library::Library;
 use flagcopper_tests::readback::Words;
 use flagcopper_tests::subject::{Subject, SIZE};
+use std::process::ExitCode;
 
-fn main() {
+fn main() -> ExitCode {
     let script = [
         [10, 0, 10, 3, 1].as_slice(), // contents: no fields, 3 nodes, 1 name
         &[2, 1, 0, 0],                // node 0: integer 1
@@ -14,9 +15,14 @@ fn main() {
     let script: Vec<u8> = script.concat().into_iter().flat_map(u16::to_le_bytes).collect();
     let mut workspace = vec![0; SIZE];
     let answer = Library.run(&script, &[0, 0], &mut workspace);
+    if answer.refusal != 0 {
+        println!("refused {} at {}", answer.refusal, answer.place.expect("a refusal has a place"));
+        return ExitCode::FAILURE;
+    }
     println!("end {} steps {}", answer.end, answer.steps);
     let words = Words::of(&workspace).expect("the workspace has the size");
     for (number, frame) in words.frames().enumerate() {
         println!("cell {number} name {} {:?}", frame.name, frame.cell);
     }
+    ExitCode::SUCCESS
 }

@@ -100,13 +100,13 @@ impl<'a> Words<'a> {
         workspace.get(..SIZE).map(Words)
     }
 
-    fn entry(&self, count: usize, start: usize, number: usize) -> Option<u64> {
-        (number < self.0[count] as usize).then_some(())?;
-        self.0.get(start + number).copied()
+    /// The words between the two places that the count at `counted` says are used.
+    fn used(&self, counted: usize, from: usize, to: usize) -> impl Iterator<Item = u64> + 'a {
+        self.0[from..to].iter().copied().take(self.0[counted] as usize)
     }
 
     pub fn frames(&self) -> impl Iterator<Item = Frame> + '_ {
-        (0..).map_while(|number| self.entry(0, FRAMES_AT, number).and_then(frame))
+        self.used(0, FRAMES_AT, OBJECTS_AT).map_while(frame)
     }
 
     /// The objects, each with its fields in order.
@@ -118,6 +118,6 @@ impl<'a> Words<'a> {
 
     /// The parts of control in preorder; none when the run is done.
     pub fn parts(&self) -> impl Iterator<Item = Part> + '_ {
-        (0..).map_while(|number| self.entry(2, PARTS_AT, number).and_then(part))
+        self.used(2, PARTS_AT, SIZE).map_while(part)
     }
 }

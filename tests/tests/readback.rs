@@ -55,3 +55,11 @@ fn nothing_is_read_of_other_words() {
         assert!(words.objects().all(|fields| fields.is_empty()));
     }
 }
+
+#[test]
+fn no_count_reaches_into_the_words_after() {
+    let mut words = vec![9; SIZE]; // null in a frame or a field, a command in a part
+    words[..3].fill(u64::MAX);
+    let words = Words::of(&words).expect("the size");
+    assert_eq!((words.frames().count(), words.objects().count(), words.parts().count()), (1_024, 256, 255));
+}
