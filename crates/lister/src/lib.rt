@@ -13,7 +13,7 @@ ghost use Rattle.lister.specs.Given.{given};
 const MOST_CHOICES: usize = 4096;
 
 // The traced run and its listing. A workspace of the size, and rows for as many steps as there can be.
-pub fn listing(script: &[u8], choices: &[u8], out: &mut [u8]) -> usize
+fn listing(script: &[u8], choices: &[u8], out: &mut [u8]) -> usize
     requires { ⌜ length (now choices) ≤ 4096 ⌝ }
     requires { ⌜ 1179904 ≤ length (now out) ⌝ }
     ensures { λ r. ⌜ Line 1179904 (listingOf (now (script .entry)) (now (choices .entry))) (now (out .entry)) r (now (out .exit)) ⌝ }
@@ -29,7 +29,7 @@ pub fn listing(script: &[u8], choices: &[u8], out: &mut [u8]) -> usize
 
 // What is printed for the two files. A missing file comes first, then the number of choices; only then is the script
 // judged, by the interpreter.
-pub fn answer(
+fn answer(
     script_found: bool,
     choices_found: bool,
     script: &[u8],
