@@ -26,7 +26,8 @@ extern "C" {
 /* Where there is no place or no node: both count from 0, so zero is a real one. */
 #define FLAGCOPPER_NOWHERE UINT32_MAX
 
-/* A number of zero means nothing in each of these. Places and nodes count from 0.
+/* A number of zero means nothing in each of these, so a struct of zeros is no answer: no verdict, neither a refusal nor
+ * an end. Places and nodes count from 0.
  *
  * refusal                                                          place
  *   10  workspace shorter than the size; tested before all others  0
@@ -43,9 +44,12 @@ extern "C" {
  *    9  a name used where it isn't declared                        lowest such node
  */
 typedef struct {
-    uint32_t number; /* 0: accepted */
-    uint32_t place;  /* FLAGCOPPER_NOWHERE where accepted */
+    uint32_t verdict; /* FLAGCOPPER_ACCEPTED or FLAGCOPPER_REFUSED */
+    uint32_t number;  /* the refusal; 0 where accepted */
+    uint32_t place;   /* FLAGCOPPER_NOWHERE where accepted */
 } flagcopper_checked;
+
+enum { FLAGCOPPER_ACCEPTED = 1, FLAGCOPPER_REFUSED = 2 };
 
 /* end                   number                                   node
  *   1  done             0                                        nowhere

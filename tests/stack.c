@@ -102,7 +102,8 @@ static size_t used_by(void (*run)(void)) {
 
 static void report_check(void) {
     size_t used = used_by(check);
-    printf("the check of %u nodes: %zu bytes, refusal %u\n", nodes, used, (unsigned)checked.number);
+    printf("the check of %u nodes: %zu bytes, verdict %u number %u\n", nodes, used, (unsigned)checked.verdict,
+           (unsigned)checked.number);
 }
 
 static void report_run(const char *what) {

@@ -3,7 +3,7 @@
 
 use crate::generate::{case, Case};
 use crate::random::Random;
-use crate::subject::{Answer, Subject, Verdict, ROW};
+use crate::subject::{Answer, Subject, ROW};
 use std::collections::BTreeMap;
 use std::fmt;
 
@@ -38,7 +38,7 @@ pub fn difference(reference: &dyn Subject, subject: &dyn Subject, case: &Case) -
 
 fn compared(reference: &dyn Subject, subject: &dyn Subject, case: &Case) -> (Answer, Option<String>) {
     let wanted = outcome(reference, case, true);
-    let verdict = Verdict { number: wanted.answer.refusal, place: wanted.answer.place };
+    let verdict = wanted.answer.verdict();
     let given = subject.check(&case.script, case.words);
     if verdict != given {
         return (wanted.answer, Some(format!("check: {given:?} in place of {verdict:?}")));

@@ -16,3 +16,4 @@ pub mod random;
 pub mod readback;
 pub mod shrink;
 pub mod subject;
+pub mod x86;

@@ -1,10 +1,20 @@
-//! The proved library behind its C interface. The only file with `unsafe`: each call passes pointers and lengths of slices
-//! that live through the call, and the workspace and the rows are lent mutably and to nobody else.
+//! The proved library behind its C interface: linked on x86-64, and elsewhere asked of a program that is.
 
-use crate::subject::{Answer, Subject, Verdict};
+#[cfg(not(target_arch = "x86_64"))]
+mod bridged;
+#[cfg(target_arch = "x86_64")]
+mod linked;
 
+use crate::subject::{Answer, Refusal, Subject, Verdict};
+#[cfg(not(target_arch = "x86_64"))]
+use bridged as reached;
+#[cfg(target_arch = "x86_64")]
+use linked as reached;
+
+#[derive(Debug)]
 #[repr(C)]
 struct RawVerdict {
+    verdict: u32,
     number: u32,
     place: u32,
 }
@@ -22,68 +32,28 @@ struct RawAnswer {
 /// What the library says for no place and no node.
 const NOWHERE: u32 = u32::MAX;
 
-extern "C" {
-    fn flagcopper_size() -> usize;
-    fn flagcopper_check(script: *const u8, len: usize, workspace_words: usize) -> RawVerdict;
-    fn flagcopper_run(
-        script: *const u8,
-        len: usize,
-        choices: *const u8,
-        n: usize,
-        workspace: *mut u64,
-        words: usize,
-    ) -> RawAnswer;
-    fn flagcopper_trace(
-        script: *const u8,
-        len: usize,
-        choices: *const u8,
-        n: usize,
-        workspace: *mut u64,
-        words: usize,
-        rows: *mut u32,
-        row_words: usize,
-    ) -> RawAnswer;
-}
-
 /// The size that the library itself names.
 pub fn size() -> usize {
-    unsafe { flagcopper_size() }
+    reached::size()
 }
 
 pub struct Library;
 
 impl Subject for Library {
     fn check(&self, script: &[u8], workspace_words: usize) -> Verdict {
-        let raw = unsafe { flagcopper_check(script.as_ptr(), script.len(), workspace_words) };
-        Verdict { number: raw.number, place: known(raw.place) }
+        match reached::check(script, workspace_words) {
+            RawVerdict { verdict: 1, number: 0, place: NOWHERE } => Ok(()),
+            RawVerdict { verdict: 2, number, place } => Err(Refusal { number, place }),
+            neither => panic!("neither accepted nor refused: {neither:?}"),
+        }
     }
 
     fn run(&self, script: &[u8], choices: &[u8], workspace: &mut [u64]) -> Answer {
-        answer(unsafe {
-            flagcopper_run(
-                script.as_ptr(),
-                script.len(),
-                choices.as_ptr(),
-                choices.len(),
-                workspace.as_mut_ptr(),
-                workspace.len(),
-            )
-        })
+        answer(reached::run(script, choices, workspace))
     }
 
     fn trace(&self, script: &[u8], choices: &[u8], workspace: &mut [u64], rows: &mut [u32]) -> Answer {
-        answer(unsafe {
-            flagcopper_trace(
-                script.as_ptr(),
-                script.len(),
-                choices.as_ptr(),
-                choices.len(),
-                workspace.as_mut_ptr(),
-                workspace.len(),
-                rows.as_mut_ptr(),
-                rows.len(),
-            )
-        })
+        answer(reached::trace(script, choices, workspace, rows))
     }
 }
 

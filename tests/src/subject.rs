@@ -9,12 +9,14 @@ pub const SIZE: usize = 5_378;
 /// Words of a row of the trace: choice, node, tag, frames after, objects after.
 pub const ROW: usize = 5;
 
-/// The answer of a check; number 0 means accepted.
-#[derive(Clone, Copy, Debug, Default, PartialEq, Eq)]
-pub struct Verdict {
+#[derive(Clone, Copy, Debug, PartialEq, Eq)]
+pub struct Refusal {
     pub number: u32,
-    pub place: Option<u32>,
+    pub place: u32,
 }
+
+/// The answer of a check: accepted, or the refusal.
+pub type Verdict = Result<(), Refusal>;
 
 /// The answer of a run: a refusal with its place and nothing else, or an end with its number, node and steps.
 #[derive(Clone, Copy, Debug, Default, PartialEq, Eq)]
@@ -28,8 +30,13 @@ pub struct Answer {
 }
 
 impl Answer {
-    pub fn refused(verdict: Verdict) -> Answer {
-        Answer { refusal: verdict.number, place: verdict.place, ..Answer::default() }
+    pub fn refused(refusal: Refusal) -> Answer {
+        Answer { refusal: refusal.number, place: Some(refusal.place), ..Answer::default() }
+    }
+
+    /// The verdict of the check before this answer.
+    pub fn verdict(&self) -> Verdict {
+        self.place.map_or(Ok(()), |place| Err(Refusal { number: self.refusal, place }))
     }
 }
 

@@ -2,16 +2,16 @@
 
 use flagcopper_tests::image::{Image, Node};
 use flagcopper_tests::parse::script;
-use flagcopper_tests::subject::{subjects, Answer, Verdict, SIZE};
+use flagcopper_tests::subject::{subjects, Answer, Refusal, SIZE};
 
 /// Wants this verdict of the check, the same refusal of run and trace, and a workspace and rows that nobody wrote.
 fn refused_in(bytes: &[u8], words: usize, number: u32, place: u32) {
     for (name, subject) in subjects() {
-        let verdict = Verdict { number, place: Some(place) };
-        assert_eq!(subject.check(bytes, words), verdict, "{name}");
+        let refusal = Refusal { number, place };
+        assert_eq!(subject.check(bytes, words), Err(refusal), "{name}");
         let (mut workspace, mut rows) = (vec![7; words], vec![7; 50]);
-        assert_eq!(subject.run(bytes, &[0], &mut workspace), Answer::refused(verdict), "{name}");
-        assert_eq!(subject.trace(bytes, &[0], &mut workspace, &mut rows), Answer::refused(verdict), "{name}");
+        assert_eq!(subject.run(bytes, &[0], &mut workspace), Answer::refused(refusal), "{name}");
+        assert_eq!(subject.trace(bytes, &[0], &mut workspace, &mut rows), Answer::refused(refusal), "{name}");
         assert!(workspace.iter().all(|&word| word == 7) && rows.iter().all(|&word| word == 7), "{name} writes");
     }
 }
@@ -22,7 +22,7 @@ fn refused(bytes: &[u8], number: u32, place: u32) {
 
 fn accepted(image: &Image) {
     for (name, subject) in subjects() {
-        assert_eq!(subject.check(&image.bytes(), SIZE), Verdict::default(), "{name}");
+        assert_eq!(subject.check(&image.bytes(), SIZE), Ok(()), "{name}");
     }
 }
 

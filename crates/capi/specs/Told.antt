@@ -1,7 +1,7 @@
 -- What a caller in C or Rust is told: the answers as numbers, through document 01's numbers and values for each of their
 -- cases (module Numbers of the crate rules). A number that an answer doesn't have is 0, which means nothing there: a
--- refusal has no end, an end no refusal. Places and nodes count from 0, so one that an answer doesn't have is
--- `nowhere`: an accepted script has no place, and only a fault has a node. Assumes nothing.
+-- refusal has no end, an end no refusal; so zeros alone are no answer. Places and nodes count from 0, so one that an
+-- answer doesn't have is `nowhere`: an accepted script has no place, and only a fault has a node. Assumes nothing.
 use Prim.Native.Nat.{ℕ}
 use mathlib.Core.List.{List}
 use lib.ListN.{getD}
@@ -24,9 +24,13 @@ numberIn values = getD values 0 0
 unfoldable pub placeIn : List ℕ → ℕ
 placeIn values = getD values 1 nowhere
 
--- number 0: accepted
+-- accepted and refused, as a number of our own
+unfoldable pub verdictNo : Verdict → ℕ
+verdictNo Accepted = 1
+verdictNo (Refused k p) = 2
+
 unfoldable pub checkedOf : Verdict → Checked
-checkedOf v = record { number = numberIn (verdictNumbers v); place = placeIn (verdictNumbers v) }
+checkedOf v = record { verdict = verdictNo v; number = numberIn (verdictNumbers v); place = placeIn (verdictNumbers v) }
 
 unfoldable pub toldOf : Answer → Told
 toldOf (Refusal k p) = record { refusal = k; place = p; end = 0; number = 0; node = nowhere; steps = 0 }

@@ -10,17 +10,19 @@ ghost use mathlib.Core.Path.{_≡_};
 ghost use lib.ListN.{length};
 ghost use Rattle.rules.specs.declared.Answer.the-variants.{Ending};
 ghost use Rattle.rules.specs.declared.End.the-variants.{Stopped};
-ghost use Rattle.rules.specs.Refusals.{check as checkOf, size as sizeOf};
+ghost use Rattle.rules.specs.Refusals.{check as checkOf};
+ghost use Rattle.rules.specs.State.{size as sizeOf};
 ghost use Rattle.rules.specs.Run.{answerOf};
-ghost use Rattle.rules.specs.Lent.{wordsAfter, rowsAfter};
+ghost use Rattle.words.specs.Lent.{wordsAfter, rowsAfter};
 ghost use Rattle.capi.specs.Told.{checkedOf, toldOf};
 
 // No place and no node: both count from 0, so zero would be a real one.
 const NOWHERE: u32 = 4294967295;
 
-// The answer of the check: number 0 is accepted, any other the reason.
+// The answer of the check: verdict 1 is accepted, 2 refused with the reason's number and place.
 #[repr(C)]
 pub struct Checked {
+    pub verdict: u32,
     pub number: u32,
     pub place: u32,
 }
@@ -43,10 +45,12 @@ fn say(v: Verdict) -> Checked
 {
     match v {
         Verdict::Accepted => Checked {
+            verdict: 1,
             number: 0,
             place: NOWHERE,
         },
         Verdict::Refused(k, p) => Checked {
+            verdict: 2,
             number: k,
             place: p,
         },
@@ -142,7 +146,7 @@ pub extern "C" fn flagcopper_size() -> usize
     SIZE
 }
 
-// Number 0, or the first reason in the fixed order and its place; `workspace_words` is what a run will be lent.
+// Accepted, or refused with the first reason in the fixed order and its place; `workspace_words` is what a run will be lent.
 #[no_mangle]
 pub extern "C" fn flagcopper_check(script: &[u8], workspace_words: usize) -> Checked
     ensures { λ r. ⌜ r ≡ checkedOf (checkOf «workspace_words» (now (script .entry))) ⌝ }

@@ -7,9 +7,10 @@ use mathlib.Core.List.{List, []}
 use native.Mathlib.Omega.{arith}
 use Rattle.rules.specs.declared.Verdict.{Verdict}
 use Rattle.rules.specs.declared.Verdict.the-variants.{Accepted, Refused}
-use Rattle.rules.specs.Refusals.{size, check}
-use Rattle.rules.specs.Opens.{opens}
-use Rattle.rules.specs.Cases.{skipAlone}
+use Rattle.rules.specs.State.{size}
+use Rattle.rules.specs.Refusals.{check}
+use Rattle.rules.proofs.Opens.{opens}
+use Rattle.rules.proofs.Cases.{skipAlone}
 
 -- what `check` of src/lib.rt ensures, of any function
 abbrev pub Meets : (ℕ → List ℕ → Verdict) → Type 0

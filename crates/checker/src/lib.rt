@@ -11,7 +11,7 @@ ghost use Prim.Native.Nat.{_<_, _≤_};
 ghost use lib.ListN.{length};
 ghost use Rattle.rules.specs.Image.{fieldsOf, nodesOf};
 ghost use Rattle.rules.specs.Refusals.{badContents, check};
-ghost use Rattle.rules.specs.Good.{Sized};
+ghost use Rattle.rules.proofs.GoodFacts.{Sized};
 ghost use Rattle.rules.specs.declared.Verdict.the-variants.{Accepted};
 ghost use Rattle.checklaws.specs.Rest.{usesSay, nodesSay, bodiesSay};
 ghost use Rattle.checklaws.specs.Pieces.{refusal, headReason, codeRules, nodeRules, placeSays, rulesSay};

@@ -10,8 +10,8 @@ ghost use mathlib.Core.Path.{_≡_};
 ghost use mathlib.Core.Bool.{_&&_};
 ghost use Prim.Native.Nat.{_<_};
 ghost use Rattle.rules.specs.Image.{nodesOf, anExp, aTest, aCmd};
-ghost use Rattle.rules.specs.Refusals.{blank, isKind, right};
-ghost use Rattle.rules.specs.Good.{Sized};
+ghost use Rattle.rules.specs.Refusals.{blank, isKind, suits};
+ghost use Rattle.rules.proofs.GoodFacts.{Sized};
 ghost use Rattle.image.specs.Tags.{kindIs, roleIs};
 ghost use Rattle.checklaws.specs.Pieces.{refusal, nodeRules, placeSays, rulesSay, wordsReason, childKind, indexRight, nameRight};
 
@@ -115,7 +115,7 @@ fn name_right(img: &[u8], w: usize) -> bool
 fn right_word(img: &[u8], n: usize, p: Operand, w: usize) -> bool
     requires { ⌜ Sized (now img) ⌝ }
     requires { ⌜ n < nodesOf (now img) ⌝ }
-    ensures { λ r. ⌜ r ≡ right (now (img .entry)) n (roleIs p) w ⌝ }
+    ensures { λ r. ⌜ r ≡ suits (now (img .entry)) n (roleIs p) w ⌝ }
 {
     match p {
         Operand::Unused => true,
@@ -132,7 +132,7 @@ fn right_word(img: &[u8], n: usize, p: Operand, w: usize) -> bool
 fn right_words(img: &[u8], n: usize, x: Node, p: Operand, q: Operand, r: Operand) -> bool
     requires { ⌜ Sized (now img) ⌝ }
     requires { ⌜ n < nodesOf (now img) ⌝ }
-    ensures { λ y. ⌜ y ≡ (right (now (img .entry)) n (roleIs p) (x .a) && right (now (img .entry)) n (roleIs q) (x .b) && right (now (img .entry)) n (roleIs r) (x .c)) ⌝ }
+    ensures { λ y. ⌜ y ≡ (suits (now (img .entry)) n (roleIs p) (x .a) && suits (now (img .entry)) n (roleIs q) (x .b) && suits (now (img .entry)) n (roleIs r) (x .c)) ⌝ }
 {
     let a = x.a;
     let b = x.b;

@@ -9,7 +9,7 @@ ghost use mathlib.Core.Path.{_≡_};
 ghost use Prim.Native.Nat.{_+_, _<_};
 ghost use lib.ListN.{getD, set};
 ghost use Rattle.rules.specs.Image.{nodesOf};
-ghost use Rattle.rules.specs.Good.{Sized};
+ghost use Rattle.rules.proofs.GoodFacts.{Sized};
 ghost use Rattle.image.specs.Tags.{roleIs};
 ghost use Rattle.checklaws.specs.Pieces.{refusal, useRules, placeSays, rulesSay};
 ghost use Rattle.checklaws.specs.Counts.{Most, Ticks, TicksAll, Counts};

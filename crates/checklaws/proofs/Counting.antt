@@ -110,7 +110,7 @@ all-three p q r x t t₁ t₂ t₃ h i j =
 hits-small : (o : Option Row) (x : Node) (k : ℕ) → hits o x k ≤ 3
 unfolding hits
 hits-small none x k = omega arith
-hits-small (some (row m t p q r)) x k =
+hits-small (some (row m p q r t)) x k =
     let a = hit-small p (x .a) k in
     let b = hit-small q (x .b) k in
     let c = hit-small r (x .c) k in
@@ -163,7 +163,7 @@ module _ (s : List ℕ) where
     no-hits : (o : Option Row) (k : ℕ) → rolesOf o ≡ none → hits o x k ≡ 0
     unfolding hits rolesOf
     no-hits none k e = refl
-    no-hits (some (row m g p q r)) k e = let z : _≡_ {A = ℕ} 0 1 = cc in absurd (omega arith)
+    no-hits (some (row m p q r g)) k e = let z : _≡_ {A = ℕ} 0 1 = cc in absurd (omega arith)
 
     pub no-tag-counts : rolesOf (rowOf (x .tag)) ≡ none → Counts s (n + 1) t
     no-tag-counts e =
@@ -173,7 +173,7 @@ module _ (s : List ℕ) where
     by-role : (o : Option Row) (k : ℕ) (p q r : Role) → rolesOf o ≡ some (roles p q r) → hits o x k ≡ hit p (x .a) k + hit q (x .b) k + hit r (x .c) k
     unfolding hits rolesOf
     by-role none k p q r e = let z : _≡_ {A = ℕ} 0 1 = cc in absurd (omega arith)
-    by-role (some (row m g p′ q′ r′)) k p q r e =
+    by-role (some (row m p′ q′ r′ g)) k p q r e =
         let a : p′ ≡ p = cc in
         let b : q′ ≡ q = cc in
         let c : r′ ≡ r = cc in

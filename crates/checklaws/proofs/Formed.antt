@@ -1,22 +1,27 @@
 -- A script that passed the rules 1 to 8 is formed (`formed`), and rule 9 is a search downward for the lowest node that
 -- strays: the answer for the places passed is kept, and a lower one takes its place (`down-start`, `down`, `down-end`).
 -- Assumes nothing.
-use Prim.Native.Nat.{ℕ, suc, _+_, _<_}
+use Prim.Native.Nat.{ℕ, suc, _+_, _-_, _<_}
 use mathlib.Core.Path.{_≡_, refl, sym, ap, _∙_}
 use mathlib.Core.Bool.{Bool, true, false, cond}
-use mathlib.Core.List.{List}
+use mathlib.Core.List.{List, []}
 use mathlib.Core.Logic.{inl, inr}
 use native.Mathlib.Omega.{arith}
 use Rattle.rules.specs.declared.Verdict.{Verdict}
 use Rattle.rules.specs.declared.Verdict.the-variants.{Accepted, Refused}
-use Rattle.rules.specs.Image.{rowOf, nodesOf, nodeAt}
-use Rattle.rules.specs.Refusals.{Reason, noSuchTag, unusedWord, wrongOperand, notOnce, reasonNo, size, broken, orElse, atPlace, lowest}
-use Rattle.rules.specs.Good.{Sized}
-use Rattle.rules.proofs.Groups.{In, at-accepted, low-accepted}
-use Rattle.rules.proofs.Good.{row-fits, use-once}
+use Rattle.rules.specs.Image.{rowOf, nodesOf, nodeAt, Tree, cmdAt}
+use Rattle.rules.specs.Refusals.{Reason, noSuchTag, unusedWord, wrongOperand, notOnce, orElse, atPlace, lowest, ruleOf, rule}
+use Rattle.rules.proofs.Groups.{reasonNo, broken, In, at-accepted, low-accepted}
+use Rattle.rules.specs.State.{size}
+use Rattle.rules.proofs.GoodFacts.{Sized}
+use Rattle.rules.proofs.Good.{row-fits, use-once, root-kind}
 use Rattle.checklaws.specs.Pieces.{nodeRules, useRules, nameRules, placeSays, rulesSay}
 use Rattle.checklaws.specs.Hands.{Formed, strayAt}
 use Rattle.checklaws.proofs.Hands.{strays-is}
+use Rattle.rules.specs.Scope.{has, straysCmd}
+use Rattle.rules.specs.Script.{rootOf}
+use Rattle.rules.proofs.Strays.{straysTree}
+use Rattle.rules.proofs.TreeKinds.{is-cmd}
 
 -- ---- formed
 
@@ -26,7 +31,7 @@ module _ (s : List ℕ) where
   passed rs n e p l r i = at-accepted (broken size s) rs p (low-accepted (broken size s) rs n e p l) r i
 
   pub formed : Sized s → rulesSay s nodeRules (nodesOf s) ≡ Accepted → rulesSay s useRules (nodesOf s) ≡ Accepted → Formed s
-  unfolding broken
+  unfolding ruleOf rule
   formed z e f =
       record {
         sized = z;
@@ -36,6 +41,9 @@ module _ (s : List ℕ) where
             (passed nodeRules (nodesOf s) e n l unusedWord (inr (inl refl)))
             (passed nodeRules (nodesOf s) e n l wrongOperand (inr (inr (inl refl))));
         once = λ n l. use-once s n l (passed useRules (nodesOf s) f n (omega arith) notOnce (inl refl));
+        root =
+            let m = z .some-node in
+            root-kind s m (passed useRules (nodesOf s) f (nodesOf s - 1) (omega arith) notOnce (inl refl));
       }
 
 -- ---- downward
@@ -58,9 +66,13 @@ module _ (s : List ℕ) where
   unfolding rulesSay placeSays lowest
   one-down n v = or-assoc (lowest (broken size s) nameRules n) (atPlace (broken size s) nameRules n) v
 
+  stray-is : (n : ℕ) → Formed s → n < nodesOf s → has n (straysCmd [] (cmdAt (nodeAt s) (rootOf s))) ≡ strayAt s n
+  unfolding rootOf straysTree
+  stray-is n g l = ap (λ (t : Tree). straysTree [] t n) (sym (is-cmd (nodeAt s) (nodesOf s - 1) (g .root))) ∙ strays-is s g n l
+
   place : (n : ℕ) (b : Bool) (v : Verdict) → Formed s → n < nodesOf s → b ≡ strayAt s n → orElse (placeSays s nameRules n) v ≡ cond b (Refused 9 n) v
-  unfolding placeSays atPlace broken reasonNo orElse
-  place n b v g l e = rw (strays-is s g n l, ← e) (go b)
+  unfolding placeSays atPlace orElse ruleOf rule
+  place n b v g l e = rw (stray-is n g l, ← e) (go b)
     where
       go : (c : Bool) → orElse (cond c (Refused 9 n) Accepted) v ≡ cond c (Refused 9 n) v
       go true = refl

@@ -15,9 +15,10 @@ use Rattle.rules.specs.declared.Node.{Node}
 use Rattle.rules.specs.Image.{Role, unused, index, half, uses, binds, child, Row, row, rowOf, nodesOf, nodeAt}
 use Rattle.rules.specs.Scope.{Names}
 use Rattle.rules.specs.Refusals.{hit, hits}
-use Rattle.rules.specs.Good.{Fit, RowFits}
+use Rattle.rules.proofs.GoodFacts.{Fit, RowFits}
 use Rattle.image.specs.Tags.{roles, rolesOf}
-use Rattle.checklaws.specs.Hands.{Formed, strayWord, growWord, strayRow, growRow, handed, strayAt}
+use Rattle.checklaws.specs.Hands.{Formed, handed, strayAt}
+use Rattle.rules.proofs.StrayRows.{strayWord, growWord, strayRow, growRow}
 use Rattle.checklaws.specs.Bits.{Shows, NameFits, given, givenAll, Shown, Visited}
 use Rattle.checklaws.proofs.Parents.{hitsAt}
 use Rattle.checklaws.proofs.Hands.{handed-none, handed-step}
@@ -102,12 +103,12 @@ module _ (s : List ℕ) (n : ℕ) (l : n < nodesOf s) (x : Node) (is : x ≡ nod
   no-hits : (o : Option Row) (k : ℕ) → rolesOf o ≡ none → hits o x k ≡ 0
   unfolding hits rolesOf
   no-hits none k e = refl
-  no-hits (some (row m g p q r)) k e = let z : _≡_ {A = ℕ} 0 1 = cc in absurd (omega arith)
+  no-hits (some (row m p q r g)) k e = let z : _≡_ {A = ℕ} 0 1 = cc in absurd (omega arith)
 
   no-stray : (Γ : Names) (o : Option Row) → rolesOf o ≡ none → false ≡ strayRow Γ o x
   unfolding strayRow rolesOf
   no-stray Γ none e = refl
-  no-stray Γ (some (row m g p q r)) e = let z : _≡_ {A = ℕ} 0 1 = cc in absurd (omega arith)
+  no-stray Γ (some (row m p q r g)) e = let z : _≡_ {A = ℕ} 0 1 = cc in absurd (omega arith)
 
   module _ (e : rolesOf (rowOf (x .tag)) ≡ none) where
     pub stray-none : false ≡ strayAt s n
@@ -126,7 +127,7 @@ module _ (s : List ℕ) (n : ℕ) (l : n < nodesOf s) (x : Node) (is : x ≡ nod
     by-role : (o : Option Row) (k : ℕ) → rolesOf o ≡ some (roles p q r) → hits o x k ≡ hit p (x .a) k + hit q (x .b) k + hit r (x .c) k
     unfolding hits rolesOf
     by-role none k d = let z : _≡_ {A = ℕ} 0 1 = cc in absurd (omega arith)
-    by-role (some (row m g p′ q′ r′)) k d =
+    by-role (some (row m p′ q′ r′ g)) k d =
         let a : p′ ≡ p = cc in
         let b : q′ ≡ q = cc in
         let c : r′ ≡ r = cc in
@@ -135,17 +136,17 @@ module _ (s : List ℕ) (n : ℕ) (l : n < nodesOf s) (x : Node) (is : x ≡ nod
     grow-role : (Γ : Names) (o : Option Row) → rolesOf o ≡ some (roles p q r) → growRow Γ o x ≡ growWord Γ p (x .a)
     unfolding growRow rolesOf
     grow-role Γ none d = let z : _≡_ {A = ℕ} 0 1 = cc in absurd (omega arith)
-    grow-role Γ (some (row m g p′ q′ r′)) d = let a : p′ ≡ p = cc in rw a
+    grow-role Γ (some (row m p′ q′ r′ g)) d = let a : p′ ≡ p = cc in rw a
 
     stray-role : (Γ : Names) (o : Option Row) → rolesOf o ≡ some (roles p q r) → strayRow Γ o x ≡ strayWord Γ p (x .a)
     unfolding strayRow rolesOf
     stray-role Γ none d = let z : _≡_ {A = ℕ} 0 1 = cc in absurd (omega arith)
-    stray-role Γ (some (row m g p′ q′ r′)) d = let a : p′ ≡ p = cc in rw a
+    stray-role Γ (some (row m p′ q′ r′ g)) d = let a : p′ ≡ p = cc in rw a
 
     fit-role : (o : Option Row) → rolesOf o ≡ some (roles p q r) → RowFits s n o x → Fit s n p (x .a)
     unfolding rolesOf
     fit-role none d f = absurd f
-    fit-role (some (row m g p′ q′ r′)) d f =
+    fit-role (some (row m p′ q′ r′ g)) d f =
         let a : p′ ≡ p = cc in
         subst (λ (u : Role). Fit s n u (x .a)) a (f .0)
 

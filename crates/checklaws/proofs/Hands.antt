@@ -15,10 +15,11 @@ use borrow.Author.Tests.{lt-ltb, eq-eqb, eqb-true}
 use Rattle.rules.specs.declared.Node.{Node}
 use Rattle.rules.specs.Image.{Role, unused, index, half, uses, binds, child, Row, row, rowOf, nodesOf, nodeAt, treeAt}
 use Rattle.rules.specs.Scope.{Names}
-use Rattle.rules.specs.Refusals.{hit, hits, straysTree}
-use Rattle.checklaws.specs.Hands.{Formed, strayRow, growRow, handOn, handedBy, handed, strayAt}
+use Rattle.rules.specs.Refusals.{hit, hits}
+use Rattle.rules.proofs.Strays.{straysTree}
+use Rattle.checklaws.specs.Hands.{Formed, handOn, handedBy, handed, strayAt}
+use Rattle.rules.proofs.StrayRows.{strayRow, growRow, strayBelow, strayKids, rowStrays, strays-row}
 use Rattle.checklaws.proofs.Parents.{hitsAt, only, parent, hit-is, one-of, child-below}
-use Rattle.checklaws.proofs.StrayRows.{strayBelow, strayKids, rowStrays, strays-row}
 
 -- ---- the trees of the children
 
@@ -35,7 +36,7 @@ module _ (s : List ℕ) (Γ : Names) (t : ℕ) where
   kids-none : (o : Option Row) (x : Node) → ((w : ℕ) → 0 < hits o x w → straysTree Γ (treeAt (nodeAt s) w) t ≡ false) → strayKids s Γ o x t ≡ false
   unfolding strayKids hits
   kids-none none x f = refl
-  kids-none (some (row m g p q r)) x f =
+  kids-none (some (row m p q r g)) x f =
       rw
       (below-none p (x .a) (λ h. f (x .a) (omega arith)), below-none q (x .b) (λ h. f (x .b) (omega arith)), below-none r (x .c) (λ h. f (x .c) (omega arith)))
 
@@ -63,7 +64,7 @@ module _ (s : List ℕ) (Γ : Names) (t : ℕ) where
   kids-some : (o : Option Row) (x : Node) (w : ℕ) → 0 < hits o x w → straysTree Γ (treeAt (nodeAt s) w) t ≡ true → strayKids s Γ o x t ≡ true
   unfolding strayKids hits
   kids-some none x w h e = absurd (omega arith)
-  kids-some (some (row m g p q r)) x w h e =
+  kids-some (some (row m p q r g)) x w h e =
       let a = strayBelow s Γ p (x .a) t in
       let b = strayBelow s Γ q (x .b) t in
       let c = strayBelow s Γ r (x .c) t in

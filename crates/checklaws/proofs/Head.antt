@@ -9,8 +9,9 @@ use lib.ListN.{length}
 use lib.Dec.{eqb, ltb}
 use borrow.Author.Tests.{lt-ltb, le-ltb, eq-eqb, ne-eqb, ltb-false, eqb-true, not-false}
 use Rattle.rules.specs.Image.{fieldStart, fieldsOf, nodeStart, nodesOf, namesOf}
-use Rattle.rules.specs.Refusals.{size, badContents, rightLength}
-use Rattle.rules.specs.Good.{Sized}
+use Rattle.rules.specs.State.{size}
+use Rattle.rules.specs.Refusals.{badContents, rightLength}
+use Rattle.rules.proofs.GoodFacts.{Sized}
 use Rattle.rules.proofs.Good.{contents-right}
 use Rattle.checklaws.specs.Pieces.{headReason}
 

@@ -4,7 +4,6 @@ pub mod Words
 pub mod Head
 pub mod Three
 pub mod Counting
-pub mod StrayRows
 pub mod Parents
 pub mod Hands
 pub mod BitLaws

@@ -14,7 +14,7 @@ use borrow.Author.Tests.{eqb-true}
 use Rattle.rules.specs.declared.Node.{Node}
 use Rattle.rules.specs.Image.{Role, unused, index, half, uses, binds, child, Row, row, rowOf, nodeAt}
 use Rattle.rules.specs.Refusals.{hit, hits, usesOf}
-use Rattle.rules.specs.Good.{Fit, RowFits}
+use Rattle.rules.proofs.GoodFacts.{Fit, RowFits}
 
 -- how often k is a child of node n
 unfoldable pub hitsAt : List ℕ → ℕ → ℕ → ℕ
@@ -104,7 +104,7 @@ module _ (s : List ℕ) (n : ℕ) where
   row-below : (o : Option Row) (x : Node) (k : ℕ) → RowFits s n o x → 0 < hits o x k → k < n
   unfolding hits
   row-below none x k f h = absurd f
-  row-below (some (row m t p q r)) x k f h =
+  row-below (some (row m p q r t)) x k f h =
       one-of (hit p (x .a) k) (hit q (x .b) k) (hit r (x .c) k) h
       (λ i. rw (← hit-is p (x .a) k i) (word-below p (x .a) k (f .0) i))
       (λ i. rw (← hit-is q (x .b) k i) (word-below q (x .b) k (f .1) i))

@@ -7,7 +7,7 @@ use borrow.Author.Tests.{not-true, not-false}
 use mathlib.Core.List.{List}
 use Rattle.rules.specs.declared.Node.{Node}
 use Rattle.rules.specs.Image.{Role}
-use Rattle.rules.specs.Refusals.{blank, right}
+use Rattle.rules.specs.Refusals.{blank, suits}
 use Rattle.checklaws.specs.Pieces.{wordsReason}
 
 module _ (a b c x : Bool) (p : x ≡ a) where
@@ -26,7 +26,7 @@ module _ (s : List ℕ) (n : ℕ) (p q r : Role) (w : Node) (x : Bool) (e : x �
   unfolding wordsReason
   not-blank h = rw (← e, not-true x h)
 
-  module _ (f : not x ≡ false) (y : Bool) (g : y ≡ (right s n p (w .a) && right s n q (w .b) && right s n r (w .c))) where
+  module _ (f : not x ≡ false) (y : Bool) (g : y ≡ (suits s n p (w .a) && suits s n q (w .b) && suits s n r (w .c))) where
     pub not-right : not y ≡ true → 7 ≡ wordsReason s n p q r w
     unfolding wordsReason
     not-right h = rw (← e, not-false x f, ← g, not-true y h)

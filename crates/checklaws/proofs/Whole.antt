@@ -9,29 +9,31 @@ use lib.Dec.{eqb, ltb}
 use Rattle.rules.specs.declared.Verdict.{Verdict}
 use Rattle.rules.specs.declared.Verdict.the-variants.{Accepted, Refused}
 use Rattle.rules.specs.Image.{fieldsOf, nodesOf}
-use Rattle.rules.specs.Refusals.{reasonNo, size, badContents, rightLength, broken, places, alone, order, orElse, atPlace, lowest, judge, check}
+use Rattle.rules.proofs.Groups.{reasonNo, broken, places}
+use Rattle.rules.specs.State.{size}
+use Rattle.rules.specs.Refusals.{badContents, rightLength, order, orElse, atPlace, lowest, judge, check, ruleOf, rule}
 use Rattle.checklaws.proofs.Places.{refusal-none, refusal-some}
 use Rattle.checklaws.specs.Rest.{usesSay, nodesSay, bodiesSay}
 use Rattle.checklaws.specs.Pieces.{refusal, headReason, codeRules, nodeRules, useRules, nameRules, rulesSay}
 
 module _ (w : ℕ) (s : List ℕ) where
   codes-same : (n : ℕ) → lowest (broken w s) codeRules n ≡ rulesSay s codeRules n
-  unfolding rulesSay lowest atPlace broken
+  unfolding rulesSay lowest atPlace ruleOf rule
   codes-same zero = refl
   codes-same (suc n) = ap (λ v. orElse v (atPlace (broken w s) codeRules n)) (codes-same n)
 
   nodes-same : (n : ℕ) → lowest (broken w s) nodeRules n ≡ rulesSay s nodeRules n
-  unfolding rulesSay lowest atPlace broken
+  unfolding rulesSay lowest atPlace ruleOf rule
   nodes-same zero = refl
   nodes-same (suc n) = ap (λ v. orElse v (atPlace (broken w s) nodeRules n)) (nodes-same n)
 
   uses-same : (n : ℕ) → lowest (broken w s) useRules n ≡ rulesSay s useRules n
-  unfolding rulesSay lowest atPlace broken
+  unfolding rulesSay lowest atPlace ruleOf rule
   uses-same zero = refl
   uses-same (suc n) = ap (λ v. orElse v (atPlace (broken w s) useRules n)) (uses-same n)
 
   names-same : (n : ℕ) → lowest (broken w s) nameRules n ≡ rulesSay s nameRules n
-  unfolding rulesSay lowest atPlace broken
+  unfolding rulesSay lowest atPlace ruleOf rule
   names-same zero = refl
   names-same (suc n) = ap (λ v. orElse v (atPlace (broken w s) nameRules n)) (names-same n)
 
@@ -41,7 +43,7 @@ or-accepted Accepted = refl
 or-accepted (Refused k p) = refl
 
 pub check-is : (w : ℕ) (s : List ℕ) → check w s ≡ orElse (refusal (headReason w s) 0) (bodiesSay s)
-unfolding check judge order alone places lowest atPlace broken orElse reasonNo headReason refusal usesSay nodesSay bodiesSay
+unfolding check judge order lowest atPlace orElse headReason refusal usesSay nodesSay bodiesSay ruleOf rule
 check-is w s =
     rw (codes-same w s (fieldsOf s), nodes-same w s (nodesOf s), uses-same w s (nodesOf s), names-same w s (nodesOf s))
     (rw (or-accepted (rulesSay s nameRules (nodesOf s)))

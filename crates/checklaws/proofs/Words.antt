@@ -12,7 +12,8 @@ use Rattle.rules.specs.declared.Node.{Node}
 use Rattle.rules.specs.declared.Verdict.{Verdict}
 use Rattle.rules.specs.declared.Verdict.the-variants.{Accepted, Refused}
 use Rattle.rules.specs.Image.{Kind, Role, child, Row, row, rowOf, kindOf, nodesOf, codeAt, nodeAt, aCmd}
-use Rattle.rules.specs.Refusals.{badCode, noRow, blank, stains, isKind, right, misfits, usesOf, badUse, broken, atPlace, reasonNo}
+use Rattle.rules.specs.Refusals.{badCode, noRow, blank, stains, isKind, suits, misfits, usesOf, badUse, atPlace, ruleOf, rule}
+use Rattle.rules.proofs.Groups.{broken, reasonNo}
 use Rattle.image.specs.Tags.{roles, rolesOf}
 use Rattle.checklaws.specs.Pieces.{refusal, codeRules, nodeRules, useRules, placeSays, wordsReason, childKind}
 
@@ -20,11 +21,11 @@ use Rattle.checklaws.specs.Pieces.{refusal, codeRules, nodeRules, useRul
 
 module _ (s : List ℕ) where
   code-bad : (i : ℕ) → badCode s i ≡ true → refusal 4 i ≡ placeSays s codeRules i
-  unfolding refusal placeSays atPlace broken reasonNo
+  unfolding refusal placeSays atPlace ruleOf rule
   code-bad i e = rw e
 
   code-good : (i : ℕ) → badCode s i ≡ false → refusal 0 i ≡ placeSays s codeRules i
-  unfolding refusal placeSays atPlace broken reasonNo
+  unfolding refusal placeSays atPlace ruleOf rule
   code-good i e = rw e
 
   zero-bad : (i : ℕ) → codeAt s i ≡ 0 → badCode s i ≡ true
@@ -70,17 +71,17 @@ module _ (s : List ℕ) (n : ℕ) where
   no-row : (o : Option Row) (x : Node) → rolesOf o ≡ none → refusal 5 n ≡ nodeSays o x
   unfolding nodeSays refusal noRow rolesOf
   no-row none x e = refl
-  no-row (some (row m t p q r)) x e = let z : _≡_ {A = ℕ} 0 1 = cc in absurd (omega arith)
+  no-row (some (row m p q r t)) x e = let z : _≡_ {A = ℕ} 0 1 = cc in absurd (omega arith)
 
   row-there : (o : Option Row) (x : Node) (p q r : Role) → rolesOf o ≡ some (roles p q r) → refusal (wordsReason s n p q r x) n ≡ nodeSays o x
   unfolding nodeSays refusal noRow rolesOf stains misfits wordsReason
   row-there none x p q r e = let z : _≡_ {A = ℕ} 0 1 = cc in absurd (omega arith)
-  row-there (some (row m t p′ q′ r′)) x p q r e =
+  row-there (some (row m p′ q′ r′ t)) x p q r e =
       let a : p ≡ p′ = cc in
       let b : q ≡ q′ = cc in
       let c : r ≡ r′ = cc in
       rw (a, b, c)
-      (go (blank p′ (x .a) && blank q′ (x .b) && blank r′ (x .c)) (right s n p′ (x .a) && right s n q′ (x .b) && right s n r′ (x .c)))
+      (go (blank p′ (x .a) && blank q′ (x .b) && blank r′ (x .c)) (suits s n p′ (x .a) && suits s n q′ (x .b) && suits s n r′ (x .c)))
     where
       go : (d f : Bool) → refusal (cond d (cond f 0 7) 6) n ≡ cond (not d) (Refused 6 n) (cond (not f) (Refused 7 n) Accepted)
       go true true = refl
@@ -89,16 +90,16 @@ module _ (s : List ℕ) (n : ℕ) where
 
   module _ (x : Node) (is : x ≡ nodeAt s n) where
     pub node-none : rolesOf (rowOf (x .tag)) ≡ none → refusal 5 n ≡ placeSays s nodeRules n
-    unfolding placeSays atPlace broken reasonNo nodeSays
+    unfolding placeSays atPlace nodeSays ruleOf rule
     node-none e = rw (← is) (no-row (rowOf (x .tag)) x e)
 
     pub node-some : (p q r : Role) (k : ℕ) → rolesOf (rowOf (x .tag)) ≡ some (roles p q r) → k ≡ wordsReason s n p q r x → refusal k n ≡ placeSays s nodeRules n
-    unfolding placeSays atPlace broken reasonNo nodeSays
+    unfolding placeSays atPlace nodeSays ruleOf rule
     node-some p q r k e h = rw (h, ← is) (row-there (rowOf (x .tag)) x p q r e)
 
 -- a child is right when its kind is
-pub child-right : (s : List ℕ) (n w : ℕ) (k : Kind) → isKind k (childKind s n w) ≡ right s n (child k) w
-unfolding childKind right isKind
+pub child-right : (s : List ℕ) (n w : ℕ) (k : Kind) → isKind k (childKind s n w) ≡ suits s n (child k) w
+unfolding childKind suits isKind
 child-right s n w k = go (ltb w n)
   where
     go : (b : Bool) → isKind k (cond b (kindOf (nodeAt s w .tag)) none) ≡ (b && isKind k (kindOf (nodeAt s w .tag)))
@@ -109,11 +110,11 @@ child-right s n w k = go (ltb w n)
 
 module _ (s : List ℕ) (n : ℕ) where
   use-bad : badUse s n ≡ true → refusal 8 n ≡ placeSays s useRules n
-  unfolding refusal placeSays atPlace broken reasonNo
+  unfolding refusal placeSays atPlace ruleOf rule
   use-bad e = rw e
 
   use-good : badUse s n ≡ false → refusal 0 n ≡ placeSays s useRules n
-  unfolding refusal placeSays atPlace broken reasonNo
+  unfolding refusal placeSays atPlace ruleOf rule
   use-good e = rw e
 
   module _ (m : ℕ) (is : m ≡ nodesOf s) (e : n + 1 ≡ m) (b : Bool) (k : b ≡ isKind aCmd (kindOf (nodeAt s n .tag))) where

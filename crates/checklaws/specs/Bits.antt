@@ -9,7 +9,8 @@ use lib.Dec.{eqb}
 use Rattle.rules.specs.declared.Node.{Node}
 use Rattle.rules.specs.Image.{Role, unused, index, half, uses, binds, child, nodesOf}
 use Rattle.rules.specs.Scope.{Names, has}
-use Rattle.checklaws.specs.Hands.{strayWord, growWord, handed}
+use Rattle.rules.proofs.StrayRows.{strayWord, growWord}
+use Rattle.checklaws.specs.Hands.{handed}
 
 unfoldable pub bit : ℕ → ℕ → Bool
 bit w x = eqb (w / 2 ^ x % 2) 1

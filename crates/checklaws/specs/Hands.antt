@@ -9,43 +9,18 @@ use mathlib.Core.Option.{Option, none, some}
 use mathlib.Core.List.{List, [], _∷_}
 use lib.Dec.{ltb}
 use Rattle.rules.specs.declared.Node.{Node}
-use Rattle.rules.specs.Image.{Role, unused, index, half, uses, binds, child, Row, row, rowOf, nodesOf, nodeAt}
+use Rattle.rules.specs.Image.{aCmd, kindOf, Role, unused, index, half, uses, binds, child, Row, row, rowOf, nodesOf, nodeAt}
 use Rattle.rules.specs.Scope.{Names, has}
 use Rattle.rules.specs.Refusals.{hits, usesOf}
-use Rattle.rules.specs.Good.{Sized, RowFits}
+use Rattle.rules.proofs.GoodFacts.{Sized, RowFits}
+use Rattle.rules.proofs.StrayRows.{strayWord, growWord, strayRow, growRow}
 
 -- what is known of a script when rule 9 is looked at
 pub record Formed (s : List ℕ) : Type 0 where
   pub sized : Sized s
   pub nodes : (n : ℕ) → n < nodesOf s → RowFits s n (rowOf (nodeAt s n .tag)) (nodeAt s n)
   pub once : (n : ℕ) → suc n < nodesOf s → usesOf s n (nodesOf s) ≡ 1
-
--- does a word use a name outside the visible ones?
-unfoldable pub strayWord : Names → Role → ℕ → Bool
-strayWord Γ unused w = false
-strayWord Γ index w = false
-strayWord Γ half w = false
-strayWord Γ uses w = not (has w Γ)
-strayWord Γ binds w = false
-strayWord Γ (child k) w = false
-
--- the visible names with those that a word declares
-unfoldable pub growWord : Names → Role → ℕ → Names
-growWord Γ unused w = Γ
-growWord Γ index w = Γ
-growWord Γ half w = Γ
-growWord Γ uses w = Γ
-growWord Γ binds w = w ∷ Γ
-growWord Γ (child k) w = Γ
-
--- of a node: only its word a uses or declares a name
-unfoldable pub strayRow : Names → Option Row → Node → Bool
-strayRow Γ none x = false
-strayRow Γ (some (row m t p q r)) x = strayWord Γ p (x .a)
-
-unfoldable pub growRow : Names → Option Row → Node → Names
-growRow Γ none x = Γ
-growRow Γ (some (row m t p q r)) x = growWord Γ p (x .a)
+  pub root : kindOf (nodeAt s (nodesOf s - 1) .tag) ≡ some aCmd
 
 module _ (s : List ℕ) where
   -- node n, which holds T n, hands down

@@ -11,7 +11,9 @@ use Rattle.rules.specs.declared.Node.{Node}
 use Rattle.rules.specs.declared.Verdict.{Verdict}
 use Rattle.rules.specs.declared.Verdict.the-variants.{Accepted, Refused}
 use Rattle.rules.specs.Image.{Kind, Role, kindOf, fieldsOf, namesOf, nodeAt}
-use Rattle.rules.specs.Refusals.{Reason, wrongCode, noSuchTag, unusedWord, wrongOperand, notOnce, undeclared, size, badContents, rightLength, blank, right, broken, atPlace, lowest}
+use Rattle.rules.specs.Refusals.{Reason, wrongCode, noSuchTag, unusedWord, wrongOperand, notOnce, undeclared, badContents, rightLength, blank, suits, atPlace, lowest}
+use Rattle.rules.specs.State.{size}
+use Rattle.rules.proofs.Groups.{broken}
 
 -- the verdict of a reason at a place
 unfoldable pub refusal : ℕ → ℕ → Verdict
@@ -48,7 +50,7 @@ rulesSay s rs n = lowest (broken size s) rs n
 unfoldable pub wordsReason : List ℕ → ℕ → Role → Role → Role → Node → ℕ
 wordsReason s n p q r x =
     cond (blank p (x .a) && blank q (x .b) && blank r (x .c))
-    (cond (right s n p (x .a) && right s n q (x .b) && right s n r (x .c)) 0 7)
+    (cond (suits s n p (x .a) && suits s n q (x .b) && suits s n r (x .c)) 0 7)
     6
 
 -- the kind of a child of node n; a child that isn't below n has none

@@ -19,13 +19,12 @@ use Rattle.rules.specs.declared.Effect.the-variants.{Keep, NewFrame, NewObject,
 use Rattle.rules.specs.declared.Next.{Next}
 use Rattle.rules.specs.declared.Stop.{Stop}
 use Rattle.rules.specs.Image.{fieldsOf}
-use Rattle.rules.specs.Good.{Good}
+use Rattle.rules.proofs.GoodFacts.{Good}
 use Rattle.rules.specs.State.{Store, mostFrames, mostObjects}
-use Rattle.rules.specs.Eval.{Script}
-use Rattle.rules.specs.Control.{Control, put, left}
-use Rattle.rules.specs.Step.{Plan, does, refuses, plan, follow, step, goesTo, Deed, deed, shortOf, apply, miniOO}
-use Rattle.rules.specs.Run.{scriptOf}
-use Rattle.rules.specs.Layout.{flat, flatAll, padded, layout}
+use Rattle.rules.specs.Script.{Script, scriptOf}
+use Rattle.rules.specs.Control.{Control, goesTo}
+use Rattle.rules.specs.Step.{put, remains, Plan, does, refuses, plan, follow, step, Deed, deed, shortOf, apply, miniOO}
+use Rattle.words.specs.Layout.{flat, flatAll, padded, layout}
 use Rattle.safety.specs.Safe.{Safe, StoreFits, Real, Older}
 use Rattle.safety.specs.Fits as Fits
 use Rattle.safety.specs.Rooms.{Does}
@@ -59,7 +58,7 @@ shorter n m k e = go (ltb n m) refl e
 
 module _ (img : List ℕ) (good : Good img) (s : Store) (fits : StoreFits (scriptOf img) s) where
   effect-fits : (e : Effect) → Fits.EffectFits (scriptOf img) s e → shortOf e s ≡ none → Effects.EffectFits (fieldsOf img) s e
-  unfolding scriptOf shortOf mostFrames mostObjects
+  unfolding scriptOf shortOf
   effect-fits Keep f r = tt
   effect-fits (NewFrame x ch v) f r =
       let z = good .sized .few-names in
@@ -81,7 +80,7 @@ module _ (img : List ℕ) (s : Store) (t : Control) (rest ws : List ℕ) (i n : 
 
   -- the next state of the rules
   abbrev then′ : Option Control
-  then′ = put (sc .cmdAt) t i (left (sc .cmdAt) (m .next))
+  then′ = put (sc .cmdAt) t i (remains (sc .cmdAt) (m .next))
 
   steps-to : step (machine img) s t i ≡ goesTo (apply sc e s) then′
   unfolding step follow miniOO
@@ -204,7 +203,7 @@ step-made img i x n e d ws ws′ y f z =
           record {
             chain = m .chain;
             store = apply (scriptOf img) e s;
-            control = put (scriptOf img .cmdAt) t i (left (scriptOf img .cmdAt) (m .next));
+            control = put (scriptOf img .cmdAt) t i (remains (scriptOf img .cmdAt) (m .next));
             picks = m .picks;
             steps = steps-to img s t rest ws i n e d h m;
             holds = z .says s t rest i n h m;

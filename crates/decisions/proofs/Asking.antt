@@ -10,8 +10,8 @@ use Rattle.laws.specs.Elems.{elem-lt}
 use Rattle.rules.specs.declared.Effect.{Effect}
 use Rattle.rules.specs.declared.Next.{Next}
 use Rattle.rules.specs.Image.{fieldsOf, nodesOf}
-use Rattle.rules.specs.Good.{Good}
-use Rattle.rules.specs.Layout.{flat, padded}
+use Rattle.rules.proofs.GoodFacts.{Good}
+use Rattle.words.specs.Layout.{flat, padded}
 use Rattle.words.specs.Lies.{Lying}
 use Rattle.words.proofs.Padded.{length-padded}
 use Rattle.preorder.specs.Open.{nodeIn, Known}

@@ -9,8 +9,8 @@ use Rattle.rules.specs.declared.Effect.the-variants.{Keep, NewFrame, NewObject,
 use Rattle.rules.specs.declared.Next.{Next}
 use Rattle.rules.specs.declared.Next.the-variants.{Ended, GoesOn}
 use Rattle.rules.specs.declared.Stop.the-variants.{Faulted, NoRule}
-use Rattle.rules.specs.Eval.{Res, ok, fault, stuck, _>>=_, there, asProc, asObject, asField, stored}
-use Rattle.rules.specs.Step.{Deed, deed, either}
+use Rattle.rules.specs.Eval.{Res, ok, fault, stuck, _>>=_, there, asProc, asObject, asField, stored, byKind}
+use Rattle.rules.specs.Step.{Deed, deed}
 use Rattle.store.specs.declared.Found.{Found}
 use Rattle.store.specs.declared.Found.the-variants.{At, Missing}
 use Rattle.store.specs.Says.{foundOf}
@@ -61,11 +61,11 @@ pub ruleset allocates = (malloc-does, malloc-lost)
 
 module _ (t : Truth) (x y : Next) where
   pub choose-yes : t ≡ Yes → Does Keep x ≡ outOf (choosing (truthOf t) x y)
-  unfolding choosing _>>=_ either
+  unfolding choosing _>>=_
   choose-yes e = rw e
 
   pub choose-no : t ≡ No → Does Keep y ≡ outOf (choosing (truthOf t) x y)
-  unfolding choosing _>>=_ either
+  unfolding choosing _>>=_
   choose-no e = rw e
 
   pub choose-faults : (k n : ℕ) → t ≡ Wrong k n → Not (Faulted k n) ≡ outOf (choosing (truthOf t) x y)
@@ -91,7 +91,7 @@ module _ (n : ℕ) where
   calleeIn (Fault k) = NotHeld (Faulted 7 n)
 
   callee-same : (v : Value) → calleeIn v ≡ calleeOf (callee n (ok v))
-  unfolding callee _>>=_ asProc
+  unfolding callee _>>=_ asProc byKind
   callee-same Nothing = refl
   callee-same Null = refl
   callee-same (Int b) = refl
@@ -160,7 +160,7 @@ module _ (n : ℕ) where
   targetIn Nums.Missing g = NoSpot NoRule
 
   spot-same : (o : ℕ) (w : Value) → targetIn (Nums.Has o) (selectorOf w) ≡ targetOf (targeting n (ok (Object o)) (ok w))
-  unfolding targeting _>>=_ asObject asField
+  unfolding targeting _>>=_ asObject asField byKind
   spot-same o Nothing = refl
   spot-same o Null = refl
   spot-same o (Int b) = refl
@@ -170,7 +170,7 @@ module _ (n : ℕ) where
   spot-same o (Fault k) = refl
 
   target-same : (v w : Value) → targetIn (objectOf v) (selectorOf w) ≡ targetOf (targeting n (ok v) (ok w))
-  unfolding targeting _>>=_ asObject
+  unfolding targeting _>>=_ asObject byKind
   target-same Nothing w = refl
   target-same Null w = refl
   target-same (Int b) w = refl

@@ -10,8 +10,8 @@ use Rattle.rules.specs.declared.Node.{Node}
 use Rattle.rules.specs.declared.Chain.{Chain}
 use Rattle.rules.specs.declared.Chain.the-variants.{From}
 use Rattle.rules.specs.Image.{anExp, aTest, kindOf, nodesOf, nodeAt}
-use Rattle.rules.specs.Good.{Good, Sized}
-use Rattle.rules.specs.Layout.{chainCode}
+use Rattle.rules.proofs.GoodFacts.{Good, Sized}
+use Rattle.words.specs.Layout.{chainCode}
 use Rattle.words.specs.Lies.{Lying}
 use Rattle.image.specs.Read.{At}
 use Rattle.evallaws.specs.declared.Ev.{Ev}

@@ -2,31 +2,33 @@
 -- Assumes nothing.
 use Prim.Native.Nat.{ℕ, zero, suc, _+_, _<_, _≤_}
 use mathlib.Core.Path.{_≡_, refl, sym, ap, subst, _∙_}
-use mathlib.Core.Bool.{Bool, true, false}
-use mathlib.Core.Option.{Option, none, some}
+use mathlib.Core.Bool.{Bool, true, false, cond}
+use mathlib.Core.Option.{Option, none, some, Option·none-ne-some}
 use mathlib.Core.List.{List}
 use native.Mathlib.Omega.{arith}
 use lib.ListN.{length, getD}
+use lib.Dec.{eqb}
+use borrow.Author.Tests.{eqb-true}
 use Rattle.rules.specs.declared.Node.{Node}
 use Rattle.rules.specs.declared.Chain.{Chain}
 use Rattle.rules.specs.declared.Chain.the-variants.{Empty, From}
 use Rattle.rules.specs.declared.Value.{Value}
 use Rattle.rules.specs.declared.Value.the-variants.{Nothing, Null, Int, Field, Object, Proc, Fault}
-use Rattle.rules.specs.declared.Effect.the-variants.{Keep, NewFrame}
+use Rattle.rules.specs.declared.Effect.the-variants.{Keep, NewFrame, SetField}
 use Rattle.rules.specs.declared.Next.the-variants.{Ended, GoesOn, Repeats, Enters}
 use Rattle.rules.specs.declared.Stop.{Stop}
 use Rattle.rules.specs.declared.Stop.the-variants.{Faulted, NoRule}
-use Rattle.rules.specs.Syntax.{Exp, Cmd, var, call, malloc, assign, assignField, skip, while, if, atom, seq, par, proc, expNo, cmdNo}
-use Rattle.rules.specs.Image.{Kind, anExp, aTest, aCmd, tags, rowIn, rowOf, kindOf, nodesOf, nodeAt, treeAt, expAt, testAt, cmdAt, expOf, cmdOf}
-use Rattle.rules.specs.Good.{Good, Fit, RowFits}
+use Rattle.rules.specs.Syntax.{Exp, Cmd, var, call, malloc, assign, assignField, skip, while, if, atom, seq, par, proc, expNo, cmdNo, noCmd}
+use Rattle.rules.specs.Image.{Kind, anExp, aTest, aCmd, tags, rowIn, rowOf, kindOf, nodesOf, nodeAt, treeAt, cmdAt, expOf, cmdOf, Tree, isNone, isExp, isTest, isCmd, Row, row, makeBy}
+use Rattle.rules.proofs.Trees.{expAt, testAt, cmd-var, cmd-call, cmd-malloc, cmd-assign, cmd-assignField, cmd-skip, cmd-while, cmd-if, cmd-atom, tree-proc, treeAt-is, lower, cmd-seq, cmd-par, tree-field, tree-int, tree-diff, tree-null, tree-ref, tree-select}
+use Rattle.rules.proofs.GoodFacts.{Good, Fit, RowFits}
 use Rattle.rules.specs.State.{Store, find}
-use Rattle.rules.specs.Eval.{Res, ok, fault, stuck, _>>=_, there, Closure, closure, asProc, Procedure, formal, stored, eval, test}
+use Rattle.rules.specs.Eval.{Res, ok, fault, stuck, _>>=_, there, Closure, closure, asProc, stored, eval, test, asObject, asField, byKind}
+use Rattle.rules.specs.Script.{Procedure, formal, scriptOf, procOf}
 use Rattle.rules.specs.Control.{Control}
-use Rattle.rules.specs.Step.{Deed, deed, newest, enter, calling, exec}
-use Rattle.rules.specs.Run.{scriptOf, procOf, procedureOf}
-use Rattle.rules.specs.Layout.{chainCode}
-use Rattle.rules.proofs.Trees.{cmd-var, cmd-call, cmd-malloc, cmd-assign, cmd-assignField, cmd-skip, cmd-while, cmd-if, cmd-atom, tree-proc}
-use Rattle.safety.specs.Safe.{single, Ready}
+use Rattle.rules.specs.Step.{Deed, deed, nextChain, enter, calling, exec}
+use Rattle.words.specs.Layout.{chainCode}
+use Rattle.safety.specs.Safe.{single, Ready, FitCmd, Real, IsProc, Bears}
 use Rattle.words.specs.Lies.{Lies, Lying}
 use Rattle.words.proofs.Reading.{frame-count}
 use Rattle.image.specs.Read.{At}
@@ -40,13 +42,7 @@ use Rattle.holds.specs.Holds.{Holds}
 use Rattle.preorder.proofs.Opening.{cmd-no}
 use Rattle.holds.proofs.Fitting.{lies, seen-below, seen-code}
 use Rattle.deeds.specs.Deeds.{Out, Does, Not, Callee, Held, NotHeld, Target, Spot, NoSpot, Place, place, outOf, calleeOf, targetOf, assigning, allocating, choosing, callee, passing, targeting, putting, Standing, ExecSays}
-use Rattle.rules.specs.Syntax.{noCmd}
-use Rattle.rules.specs.Image.{Tree, isNone, isExp, isTest, isCmd, Row, row, makeBy}
-use Rattle.rules.specs.declared.Effect.the-variants.{SetField}
-use Rattle.rules.specs.Eval.{asObject, asField}
-use Rattle.rules.proofs.Trees.{treeAt-is, lower, cmd-seq, cmd-par, tree-field, tree-int, tree-diff, tree-null, tree-ref, tree-select}
 use Rattle.rules.proofs.TreeKinds.{_&_, exp-cases, cmd-cases, row-kind, is-exp, is-test, is-cmd}
-use Rattle.safety.specs.Safe.{FitCmd, Real, IsProc, Bears}
 use Rattle.safety.specs.Fits.{Fine}
 use Rattle.safety.proofs.Fine.{fine-eval}
 use Rattle.deeds.proofs.Commands.{row-fits, tag-is}
@@ -61,7 +57,7 @@ bind-assoc stuck f k = refl
 -- ---- call
 
 calling-is : (img : List ℕ) (s : Store) (m y : ℕ) (c : Cmd) (dh : Chain) (arg : Res Value) → scriptOf img .procAt m ≡ some (formal y c)
-    → calling (scriptOf img) s arg (closure m dh) ≡ passing arg y dh (cmdNo c) (newest s)
+    → calling (scriptOf img) s arg (closure m dh) ≡ passing arg y dh (cmdNo c) (nextChain s)
 unfolding calling passing enter there stored _>>=_
 calling-is img s m y c dh (ok v) p = rw p
 calling-is img s m y c dh (fault k n) p = rw p
@@ -70,7 +66,7 @@ calling-is img s m y c dh stuck p = refl
 -- a call whose callee is a procedure
 call-is : (img : List ℕ) (s : Store) (ch : Chain) (n : ℕ) (a b : Exp) (m y : ℕ) (c : Cmd) (dh : Chain)
     → callee n (eval s ch a) ≡ ok (closure m dh) → scriptOf img .procAt m ≡ some (formal y c)
-    → exec (scriptOf img) s ch (call n a b) ≡ passing (eval s ch b) y dh (cmdNo c) (newest s)
+    → exec (scriptOf img) s ch (call n a b) ≡ passing (eval s ch b) y dh (cmdNo c) (nextChain s)
 unfolding exec callee
 call-is img s ch n a b m y c dh e p =
     sym (bind-assoc (eval s ch a) (asProc 7 n) (calling (scriptOf img) s (eval s ch b)))
@@ -94,54 +90,25 @@ call-not img s ch n a b q e =
 -- ---- the procedure that is called
 
 -- a node that is a procedure is a proc
-module _ (img : List ℕ) (g : Good img) (m : ℕ) (h : m < nodesOf img) (q : Procedure) (e : procOf (treeAt (nodeAt img) m) ≡ some q) where
-  not-proc : (t : Tree) → treeAt (nodeAt img) m ≡ t → procOf t ≡ none → ⊥
-  not-proc t i j =
-      let z : _≡_ {A = Option Procedure} (some q) none = sym e ∙ ap procOf i ∙ j in
-      let y : _≡_ {A = ℕ} 0 1 = cc in
-      omega arith
-
-  has-kind : (k : Kind) × (kindOf (nodeAt img m .tag) ≡ some k)
-  has-kind = go (rowOf (nodeAt img m .tag)) refl (g .nodes m h)
-    where
-      go : (r : Option Row) → rowOf (nodeAt img m .tag) ≡ r → RowFits img m r (nodeAt img m) → (k : Kind) × (kindOf (nodeAt img m .tag) ≡ some k)
-      go none i f = absurd f
-      go (some r) i f = row-kind (nodeAt img m .tag) r i
-
-  is-expression : kindOf (nodeAt img m .tag) ≡ some anExp
-  unfolding procOf
-  is-expression = go (has-kind .0) (has-kind .1)
-    where
-      go : (k : Kind) → kindOf (nodeAt img m .tag) ≡ some k → kindOf (nodeAt img m .tag) ≡ some anExp
-      go anExp i = i
-      go aTest i = absurd (not-proc (isTest (testAt (nodeAt img) m)) (is-test (nodeAt img) m i) refl)
-      go aCmd i = absurd (not-proc (isCmd (cmdAt (nodeAt img) m)) (is-cmd (nodeAt img) m i) refl)
-
-  fit-row : (k : ℕ) → nodeAt img m .tag ≡ k → RowFits img m (rowOf k) (nodeAt img m)
-  fit-row k t = subst (λ (j : ℕ). RowFits img m (rowOf j) (nodeAt img m)) t (g .nodes m h)
-
+module _ (img : List ℕ) (m : ℕ) (q : Procedure) (e : procOf (nodeAt img) (nodeAt img m) ≡ some q) where
   pub proc-tag : nodeAt img m .tag ≡ 7
-  unfolding procOf procedureOf rowOf rowIn tags
-  proc-tag =
-      exp-cases (λ t. nodeAt img m .tag ≡ t → nodeAt img m .tag ≡ 7)
-      ((λ t. absurd (not-proc _ (tree-field (nodeAt img) m t) refl))
-      & (λ t. absurd (not-proc _ (tree-int (nodeAt img) m t) refl))
-      & (λ t. let f = fit-row 3 t in absurd (not-proc _ (tree-diff (nodeAt img) m t (f .0 .0) (f .1 .0)) refl))
-      & (λ t. absurd (not-proc _ (tree-null (nodeAt img) m t) refl))
-      & (λ t. absurd (not-proc _ (tree-ref (nodeAt img) m t) refl))
-      & (λ t. let f = fit-row 6 t in absurd (not-proc _ (tree-select (nodeAt img) m t (f .0 .0) (f .1 .0)) refl))
-      & (λ t. t)
-      & tt)
-      (nodeAt img m .tag) is-expression refl
+  unfolding procOf
+  proc-tag = go (eqb (nodeAt img m .tag) 7) refl e
+    where
+      go : (b : Bool) → eqb (nodeAt img m .tag) 7 ≡ b
+          → cond b (some (formal (nodeAt img m .a) (cmdAt (nodeAt img) (nodeAt img m .b)))) none ≡ some q
+          → nodeAt img m .tag ≡ 7
+      go true i j = eqb-true (nodeAt img m .tag) 7 i
+      go false i j = absurd (Option·none-ne-some _ j)
 
   -- its formal is a, its body stands at b
-  pub proc-parts : procOf (treeAt (nodeAt img) m) ≡ some (formal (nodeAt img m .a) (cmdAt (nodeAt img) (nodeAt img m .b)))
-  unfolding procOf procedureOf rowOf rowIn tags
-  proc-parts = let f = fit-row 7 proc-tag in ap procOf (tree-proc (nodeAt img) m proc-tag (f .1 .0))
+  pub proc-parts : procOf (nodeAt img) (nodeAt img m) ≡ some (formal (nodeAt img m .a) (cmdAt (nodeAt img) (nodeAt img m .b)))
+  unfolding procOf
+  proc-parts = rw proc-tag
 
 -- the callee's value
 proc-value : (n : ℕ) (v : Value) (m : ℕ) (dh : Chain) → asProc 7 n v ≡ ok (closure m dh) → v ≡ Proc m dh
-unfolding asProc
+unfolding asProc byKind
 proc-value n Nothing m dh e = let z : _≡_ {A = ℕ} 0 1 = cc in absurd (omega arith)
 proc-value n Null m dh e = let z : _≡_ {A = ℕ} 0 1 = cc in absurd (omega arith)
 proc-value n (Int b) m dh e = let z : _≡_ {A = ℕ} 0 1 = cc in absurd (omega arith)
@@ -189,11 +156,11 @@ module _ (img ws : List ℕ) (ch : Chain) (n : ℕ) (x : Node) (w : At img n x) 
 
       pub does-call : (q : Ev) (y : Node) (r : Out) → Evals img ws ch (x .b) q → At img m y → r ≡ outOf (passing (resOf q) (y .a) dh (y .b) (From (getD ws 0 0)))
           → ExecSays img n ch r ws
-      unfolding scriptOf newest cmdAt
+      unfolding scriptOf nextChain cmdAt
       does-call q y r b a j =
           let c : callee n (resOf p) ≡ ok (closure m dh) = held-is (callee n (resOf p)) m dh (sym e ∙ i) in
           let z : scriptOf img .procAt m ≡ some (formal (nodeAt img m .a) (cmdAt (nodeAt img) (nodeAt img m .b))) =
-          proc-parts img g m callee-node (formal (callee-real .name) (callee-real .body)) (callee-real .is) in
+          proc-parts img m (formal (callee-real .name) (callee-real .body)) (callee-real .is) in
           record {
             says = λ s o rest l.
                 j

@@ -17,15 +17,15 @@ use Rattle.rules.specs.declared.Next.the-variants.{Ended, GoesOn, Repeats, Ente
 use Rattle.rules.specs.declared.Stop.{Stop}
 use Rattle.rules.specs.declared.Stop.the-variants.{Faulted, NoRule}
 use Rattle.rules.specs.Syntax.{Exp, Cmd, var, call, malloc, assign, assignField, skip, while, if, atom, seq, par, proc, expNo, cmdNo}
-use Rattle.rules.specs.Image.{Kind, anExp, aTest, aCmd, tags, rowIn, rowOf, kindOf, nodesOf, nodeAt, treeAt, expAt, testAt, cmdAt, expOf, cmdOf}
-use Rattle.rules.specs.Good.{Good, Fit, RowFits}
+use Rattle.rules.specs.Image.{Kind, anExp, aTest, aCmd, tags, rowIn, rowOf, kindOf, nodesOf, nodeAt, treeAt, cmdAt, expOf, cmdOf}
+use Rattle.rules.proofs.Trees.{expAt, testAt, cmd-var, cmd-call, cmd-malloc, cmd-assign, cmd-assignField, cmd-skip, cmd-while, cmd-if, cmd-atom, tree-proc}
+use Rattle.rules.proofs.GoodFacts.{Good, Fit, RowFits}
 use Rattle.rules.specs.State.{Store, find}
-use Rattle.rules.specs.Eval.{Res, ok, fault, stuck, _>>=_, there, Closure, closure, asProc, Procedure, formal, stored, eval, test}
+use Rattle.rules.specs.Eval.{Res, ok, fault, stuck, _>>=_, there, Closure, closure, asProc, stored, eval, test}
+use Rattle.rules.specs.Script.{Procedure, formal, scriptOf, procOf}
 use Rattle.rules.specs.Control.{Control}
-use Rattle.rules.specs.Step.{Deed, deed, newest, enter, calling, exec}
-use Rattle.rules.specs.Run.{scriptOf, procOf, procedureOf}
-use Rattle.rules.specs.Layout.{chainCode}
-use Rattle.rules.proofs.Trees.{cmd-var, cmd-call, cmd-malloc, cmd-assign, cmd-assignField, cmd-skip, cmd-while, cmd-if, cmd-atom, tree-proc}
+use Rattle.rules.specs.Step.{Deed, deed, nextChain, enter, calling, exec}
+use Rattle.words.specs.Layout.{chainCode}
 use Rattle.safety.specs.Safe.{single, Ready}
 use Rattle.words.specs.Lies.{Lies, Lying}
 use Rattle.words.proofs.Reading.{frame-count}
@@ -147,7 +147,7 @@ module _ (img ws : List ℕ) (ch : Chain) (n : ℕ) (x : Node) (w : At img n x) 
         record { says = λ s o rest l. e ∙ ap (λ (c : Cmd). outOf (exec (scriptOf img) s ch c)) (sym (cmd-skip (nodeAt img) n (tag-is img n x w 37 t))) }
 
     pub does-var : x .tag ≡ 32 → r ≡ Does (NewFrame (x .a) ch Null) (GoesOn (x .b) (From (getD ws 0 0))) → ExecSays img n ch r ws
-    unfolding exec newest rowOf rowIn tags cmdAt
+    unfolding exec nextChain rowOf rowIn tags cmdAt
     does-var t e =
         let f = row-fits img n x w g h 32 t in
         let z : x ≡ nodeAt img n = w .is in

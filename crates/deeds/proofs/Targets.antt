@@ -12,21 +12,21 @@ use Rattle.rules.specs.declared.Chain.{Chain}
 use Rattle.rules.specs.declared.Chain.the-variants.{Empty, From}
 use Rattle.rules.specs.declared.Value.{Value}
 use Rattle.rules.specs.declared.Value.the-variants.{Nothing, Null, Int, Field, Object, Proc, Fault}
-use Rattle.rules.specs.declared.Effect.the-variants.{Keep, NewFrame}
+use Rattle.rules.specs.declared.Effect.the-variants.{Keep, NewFrame, SetField}
 use Rattle.rules.specs.declared.Next.the-variants.{Ended, GoesOn, Repeats, Enters}
 use Rattle.rules.specs.declared.Stop.{Stop}
 use Rattle.rules.specs.declared.Stop.the-variants.{Faulted, NoRule}
-use Rattle.rules.specs.Syntax.{Exp, Cmd, var, call, malloc, assign, assignField, skip, while, if, atom, seq, par, proc, expNo, cmdNo}
-use Rattle.rules.specs.Image.{Kind, anExp, aTest, aCmd, tags, rowIn, rowOf, kindOf, nodesOf, nodeAt, treeAt, expAt, testAt, cmdAt, expOf, cmdOf}
-use Rattle.rules.specs.Good.{Good, Fit, RowFits}
+use Rattle.rules.specs.Syntax.{Exp, Cmd, var, call, malloc, assign, assignField, skip, while, if, atom, seq, par, proc, expNo, cmdNo, noCmd, Test}
+use Rattle.rules.specs.Image.{Kind, anExp, aTest, aCmd, tags, rowIn, rowOf, kindOf, nodesOf, nodeAt, treeAt, cmdAt, expOf, cmdOf, Tree, isNone, isExp, isTest, isCmd, Row, row, makeBy}
+use Rattle.rules.proofs.Trees.{expAt, testAt, cmd-var, cmd-call, cmd-malloc, cmd-assign, cmd-assignField, cmd-skip, cmd-while, cmd-if, cmd-atom, tree-proc, treeAt-is, lower, cmd-seq, cmd-par, tree-field, tree-int, tree-diff, tree-null, tree-ref, tree-select}
+use Rattle.rules.proofs.GoodFacts.{Good, Fit, RowFits}
 use Rattle.rules.specs.State.{Store, find, fieldOf}
-use Rattle.rules.specs.Eval.{Res, ok, fault, stuck, _>>=_, there, Closure, closure, asProc, Procedure, formal, stored, eval, test}
+use Rattle.rules.specs.Eval.{Res, ok, fault, stuck, _>>=_, there, Closure, closure, asProc, stored, eval, test, asObject, asField}
+use Rattle.rules.specs.Script.{Procedure, formal, scriptOf, procOf}
 use Rattle.rules.specs.Control.{Control}
-use Rattle.rules.specs.Step.{Deed, deed, newest, enter, calling, exec}
-use Rattle.rules.specs.Run.{scriptOf, procOf, procedureOf}
-use Rattle.rules.specs.Layout.{chainCode}
-use Rattle.rules.proofs.Trees.{cmd-var, cmd-call, cmd-malloc, cmd-assign, cmd-assignField, cmd-skip, cmd-while, cmd-if, cmd-atom, tree-proc}
-use Rattle.safety.specs.Safe.{single, Ready}
+use Rattle.rules.specs.Step.{Deed, deed, nextChain, enter, calling, exec}
+use Rattle.words.specs.Layout.{chainCode}
+use Rattle.safety.specs.Safe.{single, Ready, FitCmd, Real, IsProc, Bears}
 use Rattle.words.specs.Lies.{Lies, Lying}
 use Rattle.words.proofs.Reading.{frame-count}
 use Rattle.words.proofs.Decides.{lies-once}
@@ -40,17 +40,10 @@ use Rattle.evallaws.specs.Says.{Evals, Tests}
 use Rattle.holds.specs.Holds.{Holds}
 use Rattle.holds.proofs.Fitting.{lies, seen-below, seen-code}
 use Rattle.deeds.specs.Deeds.{Out, Does, Not, Callee, Held, NotHeld, Target, Spot, NoSpot, Place, place, outOf, calleeOf, targetOf, assigning, allocating, choosing, callee, passing, targeting, putting, Standing, ExecSays}
-use Rattle.rules.specs.Syntax.{noCmd}
-use Rattle.rules.specs.Image.{Tree, isNone, isExp, isTest, isCmd, Row, row, makeBy}
-use Rattle.rules.specs.declared.Effect.the-variants.{SetField}
-use Rattle.rules.specs.Eval.{asObject, asField}
-use Rattle.rules.proofs.Trees.{treeAt-is, lower, cmd-seq, cmd-par, tree-field, tree-int, tree-diff, tree-null, tree-ref, tree-select}
 use Rattle.rules.proofs.TreeKinds.{_&_, exp-cases, cmd-cases, row-kind, is-exp, is-test, is-cmd}
-use Rattle.safety.specs.Safe.{FitCmd, Real, IsProc, Bears}
 use Rattle.safety.specs.Fits.{Fine, DeedFits}
 use Rattle.safety.proofs.Progress.{fine-exec}
 use Rattle.deeds.proofs.Commands.{row-fits, tag-is}
-use Rattle.rules.specs.Syntax.{Test}
 
 -- ---- field assignment
 

@@ -1,3 +1,4 @@
 pub mod Fitting
 pub mod Looping
 pub mod Whole
+pub mod Decided

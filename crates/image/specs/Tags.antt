@@ -36,4 +36,4 @@ rolesIs (Words p q r) = some (roles (roleIs p) (roleIs q) (roleIs r))
 
 unfoldable pub rolesOf : Option Row → Option Roles
 rolesOf none = none
-rolesOf (some (row k t p q r)) = some (roles p q r)
+rolesOf (some (row k p q r t)) = some (roles p q r)

@@ -8,7 +8,7 @@ ghost use mathlib.Core.Path.{_≡_};
 ghost use Prim.Native.Nat.{_+_, _*_, _<_, _≤_};
 ghost use lib.ListN.{length};
 ghost use Rattle.rules.specs.Image.{wordAt, fieldsOf, nodesOf, namesOf, codeAt, partOf, kindOf, rowOf};
-ghost use Rattle.rules.specs.Good.{Sized};
+ghost use Rattle.rules.proofs.GoodFacts.{Sized};
 ghost use Rattle.image.specs.Read.{At};
 ghost use Rattle.image.specs.Tags.{kindIs, rolesIs, rolesOf};
 

@@ -26,3 +26,7 @@ decided-one true true A a b = refl
 decided-one true false A a b = absurd (b a)
 decided-one false true A a b = absurd (a b)
 decided-one false false A a b = refl
+
+pub or-assoc : (a b c : Bool) → (a || (b || c)) ≡ (a || b || c)
+or-assoc true b c = refl
+or-assoc false b c = refl

@@ -15,7 +15,9 @@ use borrow.Author.Tests.{le-ltb, ltb-false, ne-eqb}
 use Rattle.laws.specs.Bools.{or-neither}
 use Rattle.rules.specs.declared.Verdict.the-variants.{Refused}
 use Rattle.rules.specs.Image.{wordAt, fieldStart, fieldsOf, nodeStart, nodesOf, namesOf}
-use Rattle.rules.specs.Refusals.{size, check, judge, order, alone, places, lowest, atPlace, orElse, broken, reasonNo, badContents, rightLength}
+use Rattle.rules.specs.State.{size}
+use Rattle.rules.specs.Refusals.{check, judge, order, lowest, atPlace, orElse, badContents, rightLength, ruleOf, rule}
+use Rattle.rules.proofs.Groups.{places, broken, reasonNo}
 use Rattle.report.specs.Listing.{listing, listingLines, linesBy, printed}
 use Rattle.lister.proofs.Printed.{printed-whole, printed-long}
 
@@ -33,7 +35,7 @@ counts s e =
     (ltb-false 16 (fieldsOf s) (j .1), ltb-false 2048 (nodesOf s) (g .1))
 
 too-long : (s : List ℕ) → 16426 < length s → check size s ≡ cond (badContents s) (Refused 2 0) (Refused 3 0)
-unfolding check judge order alone places lowest atPlace orElse broken reasonNo size rightLength
+unfolding check judge order lowest atPlace orElse size rightLength ruleOf rule
 too-long s h = go (badContents s) refl
   where
     short : ltb (length s) 10 ≡ false

@@ -2,3 +2,4 @@ pub mod RowCount
 pub mod Listed
 pub mod Printed
 pub mod Cut
+pub mod Cases

@@ -13,20 +13,20 @@ use Rattle.rules.specs.declared.Answer.{Answer}
 use Rattle.rules.specs.declared.Answer.the-variants.{Refusal, Ending}
 use Rattle.rules.specs.declared.End.{End}
 use Rattle.rules.specs.Image.{fieldsOf}
-use Rattle.rules.specs.Refusals.{check, size}
+use Rattle.rules.specs.Refusals.{check}
+use Rattle.rules.specs.State.{size, Store}
 use Rattle.rules.specs.Published.{Bytes}
-use Rattle.rules.specs.State.{Store}
-use Rattle.rules.specs.Layout.{layout}
-use Rattle.rules.specs.Rows.{rowsOf}
-use Rattle.rules.specs.Run.{Ran, scriptOf, rootOf, runScript, answered, answerOf}
-use Rattle.rules.specs.Lent.{placeRows, wordsAfterRun, wordsAfter, rowsAfterRun, rowsAfter}
+use Rattle.words.specs.Layout.{layout}
+use Rattle.words.specs.Lent.{rowsOf, placeRows, wordsAfterRun, wordsAfter, rowsAfterRun, rowsAfter}
+use Rattle.rules.specs.Run.{Ran, runScript, answered, answerOf}
+use Rattle.rules.specs.Script.{scriptOf, rootOf}
 use Rattle.rules.proofs.Good.{good}
 use Rattle.rules.proofs.Runs.{script-steps}
 use Rattle.safety.specs.Safe.{Safe}
 use Rattle.safety.proofs.Accepted.{accepted-fits}
 use Rattle.safety.proofs.Preserved.{run-sound}
 use Rattle.words.specs.Lies.{Lies}
-use Rattle.holds.specs.Says.{FaceSays}
+use Rattle.words.specs.Contracts.{Traces}
 use Rattle.holds.proofs.Fitting.{store-good}
 use Rattle.report.specs.Listing.{refusedLine, runLines, linesBy, listingLines, listing}
 use Rattle.text.specs.Written.{Line}
@@ -94,7 +94,7 @@ module _ (bytes cs : List ℕ) where
 
 -- ---- a traced run with a workspace of the size and rows for 4,096 steps
 
-module _ (bytes cs : List ℕ) (a : Answer) (ws after lent rows : List ℕ) (says : FaceSays bytes cs a ws after lent rows) (sized : length ws ≡ 5378) where
+module _ (bytes cs : List ℕ) (a : Answer) (ws after lent rows : List ℕ) (says : Traces bytes cs a ws after lent rows) (sized : length ws ≡ 5378) where
   answer-is : a ≡ answered (check size bytes) (runScript bytes cs)
   unfolding answerOf size
   answer-is = says .answer ∙ ap (λ (n : ℕ). answerOf n bytes cs) sized

@@ -10,10 +10,11 @@ use Rattle.rules.specs.declared.Chain.the-variants.{Empty}
 use Rattle.rules.specs.declared.End.the-variants.{Stopped}
 use Rattle.rules.specs.declared.Stop.the-variants.{Full}
 use Rattle.rules.specs.State.{empty}
-use Rattle.rules.specs.Control.{Control, Move, move, movable, opened, fits}
-use Rattle.rules.specs.Step.{Machine, Outcome, goesTo, stops, chosen, plan, follow, step, miniOO}
-use Rattle.rules.specs.Run.{ran, onward, runFrom, run, scriptOf, rootOf, runScript}
-use Rattle.rules.specs.Rows.{rowThen, rowsFrom, rows, stepRow, rowsOf}
+use Rattle.rules.specs.Control.{Control, Move, move, movable, opened, Outcome, goesTo, stops}
+use Rattle.rules.specs.Step.{fits, Machine, chosen, plan, follow, step, miniOO}
+use Rattle.rules.specs.Run.{ran, onward, runFrom, run, runScript, begins}
+use Rattle.rules.specs.Script.{scriptOf, rootOf}
+use Rattle.words.specs.Lent.{rowThen, rowsFrom, rows, stepRow, rowsOf}
 
 module _ {S E A : Type 0} (m : Machine S E) (keep : ℕ → ℕ → S → A) where
   from : (cs : List ℕ) (k : ℕ) (s : S) (o : Option Control) → runFrom m cs k s o .steps ≡ k + length (rowsFrom m keep cs s o)
@@ -37,7 +38,7 @@ module _ {S E A : Type 0} (m : Machine S E) (keep : ℕ → ℕ → S → A) whe
       go ih (some v) e = rw e (on ih v (step m s t i))
 
   whole : (s : S) (root : ℕ) (cs : List ℕ) → run m s root cs .steps ≡ length (rows m keep s root cs)
-  unfolding run rows ran
+  unfolding run rows ran begins
   whole s root cs = go (fits (some (opened (m .cmdAt root) Empty)))
     where
       go : (b : Bool)

@@ -16,7 +16,8 @@ ghost use Rattle.rules.specs.Image.{nodesOf};
 ghost use Rattle.rules.specs.Scope.{Names, has};
 ghost use Rattle.image.specs.Tags.{roleIs};
 ghost use Rattle.checklaws.specs.Pieces.{nameRules, rulesSay};
-ghost use Rattle.checklaws.specs.Hands.{Formed, strayWord, growWord, strayAt};
+ghost use Rattle.checklaws.specs.Hands.{Formed, strayAt};
+ghost use Rattle.rules.proofs.StrayRows.{strayWord, growWord};
 ghost use Rattle.checklaws.specs.Bits.{bit, Adds, Shows, NameFits, given, givenAll, Shown, Visited};
 
 // The visible names of a node: bit x of lo is name x, bit x of hi is name 64 + x.

@@ -11,12 +11,13 @@ use Rattle.rules.specs.declared.Answer.{Answer}
 use Rattle.rules.specs.declared.Answer.the-variants.{Ending}
 use Rattle.rules.specs.declared.End.the-variants.{Done, UsedUp}
 use Rattle.rules.specs.declared.Verdict.the-variants.{Accepted}
-use Rattle.rules.specs.Refusals.{size, check}
+use Rattle.rules.specs.State.{size}
+use Rattle.rules.specs.Refusals.{check}
 use Rattle.rules.specs.Run.{runScript, answered, answerOf}
-use Rattle.rules.specs.Layout.{layout, flatAll, flat}
-use Rattle.rules.specs.Lent.{wordsAfterRun, wordsAfter}
-use Rattle.rules.specs.Opens.{opens}
-use Rattle.rules.specs.Cases.{bytes34}
+use Rattle.words.specs.Layout.{layout, flatAll, flat}
+use Rattle.words.specs.Lent.{wordsAfterRun, wordsAfter}
+use Rattle.rules.proofs.Opens.{opens}
+use Rattle.rules.proofs.Cases.{bytes34}
 
 abbrev zeros : List ℕ
 zeros = replicate size 0

@@ -1,28 +1,31 @@
 -- "A stop in mid-run leaves the workspace as the last finished step left it": a run of n steps leaves what the run over its
 -- first n choices leaves, and of those choices each was a step. For any machine. Assumes nothing.
-use Prim.Native.Nat.{ℕ, suc, zero, _+_, _<_, _≤_}
-use mathlib.Core.Path.{_≡_, refl, sym, ap, _∙_}
+use Prim.Native.Nat.{ℕ, _+_, _<_, _≤_}
+use mathlib.Core.Path.{_≡_, refl, sym, subst, _∙_}
 use mathlib.Core.Bool.{Bool, true, false, cond}
 use mathlib.Core.Option.{Option, none, some}
-use mathlib.Core.List.{List, [], _∷_}
+use mathlib.Core.Logic.{_⊎_, inl, inr}
+use mathlib.Core.List.{List, []}
 use native.Mathlib.Omega.{arith}
 use lib.ListN.{length, take}
 use lib.Dec.{leb}
-use borrow.Author.Tests.{le-leb, lt-leb}
+use borrow.Author.Tests.{le-leb, lt-leb, leb-true, leb-false}
 use Rattle.rules.specs.declared.Chain.the-variants.{Empty}
 use Rattle.rules.specs.declared.End.the-variants.{UsedUp, Stopped}
 use Rattle.rules.specs.declared.Stop.the-variants.{Full}
-use Rattle.rules.specs.Control.{Control, parts, opened, fits}
-use Rattle.rules.specs.Step.{Machine, Outcome, goesTo, stops, step, miniOO}
-use Rattle.rules.specs.Run.{Ran, ran, onward, runFrom, run, runScript, scriptOf, rootOf}
+use Rattle.rules.specs.Control.{Control, parts, opened, Outcome, goesTo, stops}
+use Rattle.rules.specs.Step.{fits, Machine, step, miniOO}
+use Rattle.rules.specs.Run.{Ran, ran, onward, runFrom, run, runScript, begins}
+use Rattle.rules.specs.Script.{scriptOf, rootOf}
 use Rattle.rules.specs.declared.Verdict.{Verdict}
 use Rattle.rules.specs.declared.Verdict.the-variants.{Accepted, Refused}
 use Rattle.rules.specs.Refusals.{check}
 use Rattle.rules.specs.State.{Store, empty, mostParts}
-use Rattle.rules.specs.Lent.{wordsAfterRun, wordsAfter}
-use Rattle.safety.specs.Reaches.{begins}
-use Rattle.safety.proofs.Ends.{Left, run-leaves}
+use Rattle.words.specs.Lent.{wordsAfterRun, wordsAfter}
+use Rattle.safety.proofs.Ends.{run-leaves}
 use Rattle.rules.proofs.Runs.{run-done, steps-at-least}
+use Rattle.safety.specs.Reaches.{Left}
+use Rattle.safety.proofs.SoFar.{left-exactly}
 
 -- the same state, and as many steps
 pub record Leaves {S : Type 0} (a b : Ran S) : Type 0 where
@@ -36,20 +39,12 @@ same a = record { store = refl; control = refl; steps = refl }
 module _ {S E : Type 0} (m : Machine S E) where
   from : (cs : List ℕ) (k : ℕ) (s : S) (o : Option Control) (n : ℕ) → runFrom m cs k s o .steps ≡ k + n
       → Leaves (runFrom m (take n cs) k s o) (runFrom m cs k s o)
-  unfolding runFrom onward ran
-  from [] k s o zero e = same _
-  from [] k s o (suc n) e = same _
-  from (i ∷ cs) k s none n e = rw (run-done m (take n (i ∷ cs)) k s) (same _)
-  from (i ∷ cs) k s (some t) n e = go (from cs (suc k)) (step m s t i) refl n e
-    where
-      go : ((s′ : S) (o : Option Control) (j : ℕ) → runFrom m cs (suc k) s′ o .steps ≡ suc k + j
-          → Leaves (runFrom m (take j cs) (suc k) s′ o) (runFrom m cs (suc k) s′ o))
-          → (x : Outcome S) → step m s t i ≡ x → (j : ℕ) → onward (runFrom m cs (suc k)) k s t x .steps ≡ k + j
-          → Leaves (runFrom m (take j (i ∷ cs)) k s (some t)) (onward (runFrom m cs (suc k)) k s t x)
-      go on (goesTo s′ o) p zero f = let l = steps-at-least m cs (suc k) s′ o in absurd (omega (arith, l, f))
-      go on (goesTo s′ o) p (suc j) f = rw p (on s′ o j (omega (arith, f)))
-      go on (stops r) p zero f = record { store = refl; control = refl; steps = refl }
-      go on (stops r) p (suc j) f = absurd (omega (arith, f))
+  from cs k s o n e =
+      let y = left-exactly m cs k s o (runFrom m cs k s o) .0 (run-leaves m cs k s o) in
+      let x = y .2 .stood in
+      let is : y .0 ≡ n = omega (arith, e, y .1) in
+      subst (λ j. Leaves (runFrom m (take j cs) k s o) (runFrom m cs k s o)) is
+      (record { store = x .store; control = x .control; steps = x .steps ∙ sym (y .1) })
 
   -- from the control that the root is opened to
   begun : (s : S) (o : Control) (b : Bool) (cs : List ℕ) (stop : Ran S)
@@ -59,7 +54,7 @@ module _ {S E : Type 0} (m : Machine S E) where
   begun s o false cs stop = same stop
 
   whole : (s : S) (root : ℕ) (cs : List ℕ) → Leaves (run m s root (take (run m s root cs .steps) cs)) (run m s root cs)
-  unfolding run ran
+  unfolding run ran begins
   whole s root cs = begun s (opened (m .cmdAt root) Empty) (fits (some (opened (m .cmdAt root) Empty))) cs _
 
 pub last-step : (script choices : List ℕ) → Leaves (runScript script (take (runScript script choices .steps) choices)) (runScript script choices)
@@ -75,6 +70,14 @@ pub last-words : (script choices lent : List ℕ) → wordsAfter script choices 
 unfolding wordsAfter
 last-words script choices lent =
     words (check (length lent) script) (runScript script (take (runScript script choices .steps) choices)) (runScript script choices) lent (last-step script choices)
+
+-- a count is within a limit, or past it
+pub fits-or-not : (count limit : ℕ) → (count ≤ limit) ⊎ (limit < count)
+fits-or-not count limit = go (leb count limit) refl
+  where
+    go : (b : Bool) → leb count limit ≡ b → (count ≤ limit) ⊎ (limit < count)
+    go true e = inl (leb-true _ _ e)
+    go false e = inr (leb-false _ _ e)
 
 -- a root that is too large as opened: no step, and nothing is left
 pub too-large : (script choices : List ℕ) → mostParts < parts (begins (miniOO (scriptOf script)) (rootOf script))

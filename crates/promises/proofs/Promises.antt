@@ -1,168 +1,338 @@
--- All that we promise, on one page. The contracts of `check`, `run` and `trace` (crates/interpreter/src/lib.rt) say that
--- the answer is `answerOf`, the workspace `wordsAfter`, the rows `rowsAfter`, for every input (`FaceSays` of trace). Here stands what
--- the three demands say of those; the proofs are elsewhere. The premise `Bytes` is what a slice of bytes is.
--- Assumes nothing.
-use Prim.Native.Nat.{ℕ, _+_, _<_, _≤_}
-use mathlib.Core.Path.{_≡_, refl, sym, ap, subst, _∙_}
-use mathlib.Core.Logic.{_↔_}
+-- All that we promise, on one page, in the order and the words of the demands (document 00). `Checks`, `Runs` and `Traces` are
+-- the contracts of `check`, `run` and `trace` (the module Contracts of crates/words/specs); what is promised holds of
+-- whatever satisfies them, and no function has a `requires`: nothing is asked of the caller. The proofs are elsewhere. The
+-- premise `Bytes` is what a slice of bytes is. Assumes nothing.
+use Prim.Native.Nat.{ℕ, _<_, _≤_}
+use mathlib.Core.Path.{_≡_, sym, ap, subst, subst₂, _∙_}
+use mathlib.Core.Bool.{true}
+use mathlib.Core.Logic.{_↔_, _⊎_}
 use mathlib.Core.Option.{Option, none, some}
 use mathlib.Core.List.{List, [], _∷_, _++_}
-use native.Mathlib.Omega.{arith}
-use lib.ListN.{length, take, drop, replicate}
+use lib.ListN.{length, getElem?, take, drop, replicate}
+use lib.Dec.{T}
 use Rattle.rules.specs.declared.Answer.{Answer}
-use Rattle.rules.specs.declared.Answer.the-variants.{Refusal, Ending}
-use Rattle.rules.specs.declared.End.{End}
-use Rattle.rules.specs.declared.End.the-variants.{UsedUp, Stopped}
-use Rattle.rules.specs.declared.Stop.the-variants.{NoRule, Full}
+use Rattle.rules.specs.declared.Chain.{Chain}
+use Rattle.rules.specs.declared.Chain.the-variants.{From}
+use Rattle.rules.specs.declared.Frame.{Frame}
+use Rattle.rules.specs.declared.Stop.the-variants.{Full}
+use Rattle.rules.specs.declared.Value.{Value}
+use Rattle.rules.specs.declared.Value.the-variants.{Nothing, Object, Proc}
 use Rattle.rules.specs.declared.Verdict.{Verdict}
 use Rattle.rules.specs.declared.Verdict.the-variants.{Accepted, Refused}
-use Rattle.rules.specs.Image.{nodesOf}
-use Rattle.rules.specs.Refusals.{check, size}
+use Rattle.rules.specs.Syntax.{Cmd}
+use Rattle.rules.specs.Image.{nodesOf, nodeAt}
+use Rattle.rules.specs.State.{size, Store, empty, Newest, mostParts}
+use Rattle.rules.specs.Script.{scriptOf, rootOf, formal}
+use Rattle.rules.specs.Refusals.{First, check}
 use Rattle.rules.specs.Published.{Bytes, Published}
-use Rattle.rules.specs.State.{Store, empty, mostParts}
-use Rattle.rules.specs.Control.{Control, parts}
-use Rattle.rules.specs.Step.{Outcome, stops, step, miniOO}
-use Rattle.rules.specs.Run.{Ran, ran, goOn, scriptOf, rootOf, runScript, answerOf}
-use Rattle.rules.specs.Layout.{layout}
-use Rattle.rules.specs.Lent.{wordsAfterRun, wordsAfter, rowsAfterRun, rowsAfter}
-use Rattle.rules.specs.Paper.{Makes}
-use Rattle.rules.specs.First.{First}
+use Rattle.rules.specs.Control.{Control, parts, move, movable, atomIn, Outcome, goesTo, stops}
+use Rattle.rules.specs.Paper.{Command, Makes}
+use Rattle.rules.specs.Step.{step}
+use Rattle.rules.specs.Run.{Ran, ran, runFrom, runScript, answerOf}
+use Rattle.rules.specs.Numbers.{kindNo, stopNo, stopValues, endNo, endValues, verdictNumbers, answerNumbers}
+use Rattle.words.specs.Layout.{layout}
+use Rattle.words.specs.Lent.{wordsAfterRun, wordsAfter, rowsAfterRun, rowsAfter}
+use Rattle.words.specs.Lies as Lies
+use Rattle.words.specs.Contracts.{Checks, Runs, Traces}
+use Rattle.safety.specs.Inside.{Waits}
+use Rattle.safety.specs.Safe.{IsProc}
+use Rattle.safety.specs.Needs.{needs}
+use Rattle.safety.specs.Found.{Borne, HeldIn}
+use Rattle.safety.specs.Reaches.{Left}
+use Rattle.safety.specs.Atoms.{AtomMoves, Sealed, Innermost}
+use Rattle.safety.specs.Rooms.{NoRoom, ForRoom}
+use Rattle.safety.specs.Numbered.{OneTo, EndNumbered, VerdictNumbered, Numbered}
+use Rattle.promises.specs.Saying.{Refuses, Ends, Accepts, rules, start, StartFits, StartTooLarge, At}
 use Rattle.rules.proofs.Reasons.{refused-only, refused-if}
 use Rattle.rules.proofs.Accept.{accepted-published, published-accepted}
-use Rattle.rules.proofs.Good.{roomy}
-use Rattle.rules.proofs.Agree.{paper-if, paper-only}
-use Rattle.rules.proofs.Runs as Runs
+use Rattle.rules.proofs.Agree.{paper-if, paper-only, room-exactly}
+use Rattle.rules.proofs.AgreeCommand.{command-ruled}
+use Rattle.rules.proofs.Good.{good}
+use Rattle.rules.proofs.Runs.{script-resumes, script-finished, script-used-up}
+use Rattle.rules.proofs.Numbers as Numbers
+use Rattle.words.proofs.Contracted as Contracted
 use Rattle.words.proofs.Starting.{start-zeros}
-use Rattle.safety.specs.Reaches.{Moment, begins}
-use Rattle.safety.specs.Fits.{EndFits}
-use Rattle.safety.specs.Rooms.{ForRoom}
-use Rattle.safety.specs.Numbered.{Numbered}
-use Rattle.safety.proofs.Zero.{no-answer-is-zero}
+use Rattle.words.proofs.Decides.{decides}
+use Rattle.holds.proofs.Fitting.{store-good}
+use Rattle.safety.proofs.Zero as Zero
+use Rattle.safety.proofs.Zero.{no-verdict-is-zero, no-answer-is-zero}
 use Rattle.safety.proofs.ReachesMoments.{run-moment}
-use Rattle.safety.proofs.Ends.{Left}
-use Rattle.holds.specs.Says.{FaceSays}
-use Rattle.promises.proofs.Answers.{refused-answer, answer-refused, accepted-answer, answer-end, answer-steps}
-use Rattle.promises.proofs.LastStep.{last-step, last-words, too-large, reached, started}
--- demand 3, at every moment of the run of an accepted script, sentence by sentence
-pub use Rattle.safety.proofs.Demand3.{needed-name-is-found, found-frame-is-newest, waiting-name-is-found, body-name-is-found, held-object-exists, held-procedure-exists, nothing-is-never-held, only-the-entered-block-moves, only-inside-an-entered-atom, run-ends-as-said, room-only-when-needed, room-when-needed}
+use Rattle.safety.proofs.SoFar.{moment-run}
+use Rattle.safety.proofs.RoomsRuns.{room-if, room-only}
+use Rattle.safety.proofs.Demand3 as Demand3
+use Rattle.safety.proofs.SafeUsed as SafeUsed
+use Rattle.promises.proofs.Answers.{verdict-numbers-decide, accepts-only, accepts-if, four-used-up, refused-answer, answer-refused, accepted-answer, answer-ends, answer-room, room-answer}
+use Rattle.promises.proofs.LastStep.{last-step, last-words, too-large, fits-or-not, reached, started}
 
 -- ---- one answer: two results that satisfy a contract are equal
 
-pub check-decides : (words : ℕ) (script : List ℕ) (v w : Verdict) → v ≡ check words script → w ≡ check words script → v ≡ w
-check-decides words script v w p q = p ∙ sym q
+pub check-decides : (script : List ℕ) (words : ℕ) (v w : Verdict) → Checks script words v → Checks script words w → v ≡ w
+check-decides = Contracted.check-decides
 
 pub run-decides : (script choices lent : List ℕ) (a b : Answer) (ws us : List ℕ)
-    → (a ≡ answerOf (length lent) script choices) × (ws ≡ wordsAfter script choices lent)
-    → (b ≡ answerOf (length lent) script choices) × (us ≡ wordsAfter script choices lent)
-    → (a ≡ b) × (ws ≡ us)
-run-decides script choices lent a b ws us p q = (p .0 ∙ sym (q .0), p .1 ∙ sym (q .1))
+    → Runs script choices a lent ws → Runs script choices b lent us → (a ≡ b) × (ws ≡ us)
+run-decides = Contracted.run-decides
 
 pub trace-decides : (script choices lent rows : List ℕ) (a b : Answer) (ws us rs qs : List ℕ)
-    → FaceSays script choices a lent ws rows rs → FaceSays script choices b lent us rows qs → (a ≡ b) × (ws ≡ us) × (rs ≡ qs)
-trace-decides script choices lent rows a b ws us rs qs p q =
-    (p .answer ∙ sym (q .answer), p .words ∙ sym (q .words), p .rows ∙ sym (q .rows))
+    → Traces script choices a lent ws rows rs → Traces script choices b lent us rows qs → (a ≡ b) × (ws ≡ us) × (rs ≡ qs)
+trace-decides = Contracted.trace-decides
 
-module _ (script choices lent : List ℕ) (are-bytes : Bytes script) where
-  abbrev answer : Answer
-  answer = answerOf (length lent) script choices
+-- so what is promised of `run` is promised of `trace`
+pub trace-runs : (script choices lent rows : List ℕ) (a : Answer) (ws rs : List ℕ) → Traces script choices a lent ws rows rs → Runs script choices a lent ws
+trace-runs script choices lent rows a ws rs p = record { answer = p .answer; words = p .words }
 
-  -- ---- demand 1
+-- what is said of numbers is said of the answer: numbers decide the answer, and the verdict, that they are of
+pub numbers-decide : (a b : Answer) → answerNumbers a ≡ answerNumbers b → a ≡ b
+numbers-decide = Numbers.numbers-decide
 
-  -- "it ends, with one of the numbered results": a refusal 1 to 10; or an end 1 to 5, with a fault 1 to 7 at a node of the
-  -- script, or a room 1 to 3
-  pub demand-1-numbered : Numbered (nodesOf script) answer
-  demand-1-numbered = no-answer-is-zero (length lent) script are-bytes choices
+pub verdict-numbers-decide-it : (v w : Verdict) → verdictNumbers v ≡ verdictNumbers w → v ≡ w
+verdict-numbers-decide-it = verdict-numbers-decide
 
-  -- "A refused script gives the first reason in the fixed order and the place"
-  pub demand-1-first-reason : (k p : ℕ) → (answer ≡ Refusal k p) ↔ First (length lent) script k p
-  demand-1-first-reason k p = (
+-- ======== Demand 1
+
+-- "Hand it a script file of arbitrary bytes and an arbitrary list of choices: it ends, with one of the numbered results"
+
+-- check: no number where the script is accepted, or a refusal 1 to 10
+pub demand-1-verdict : (script : List ℕ) → Bytes script → (words : ℕ) (v : Verdict) → Checks script words v → VerdictNumbered (verdictNumbers v)
+demand-1-verdict script b words v c = subst (λ (w : Verdict). VerdictNumbered (verdictNumbers w)) (sym (c .verdict)) (no-verdict-is-zero words script b)
+
+-- "A refused script gives the first reason in the fixed order and the place": check
+pub demand-1-check-first-reason : (script : List ℕ) (words : ℕ) (v : Verdict) → Checks script words v
+    → (k p : ℕ) → (verdictNumbers v ≡ (k ∷ p ∷ [])) ↔ First words script k p
+unfolding verdictNumbers
+demand-1-check-first-reason script words v c k p = (
+  λ e. refused-only words script k p (sym (c .verdict) ∙ verdict-numbers-decide v (Refused k p) e),
+  λ f. ap verdictNumbers (c .verdict ∙ refused-if words script k p f),
+)
+
+module _ (script choices lent : List ℕ) (a : Answer) (after : List ℕ) (runs : Runs script choices a lent after) where
+  -- run: a refusal 1 to 10; or an end 1 to 5, with a fault 1 to 7 at a node of the script, or a room 1 to 3
+  pub demand-1-numbered : Bytes script → Numbered (nodesOf script) (answerNumbers a)
+  demand-1-numbered b = rw (runs .answer) (no-answer-is-zero (length lent) script b choices)
+
+  pub demand-1-first-reason : (k p : ℕ) → Refuses a k p ↔ First (length lent) script k p
+  demand-1-first-reason k p = rw (runs .answer) (
     λ e. refused-only (length lent) script k p (answer-refused (length lent) script choices k p e),
     λ f. refused-answer (length lent) script choices k p (refused-if (length lent) script k p f),
   )
 
-  -- "and the lent workspace stays untouched", and the lent rows
-  pub demand-1-untouched : (k p : ℕ) (rows : List ℕ) → First (length lent) script k p
-      → (wordsAfter script choices lent ≡ lent) × (rowsAfter (length lent) script choices rows ≡ rows)
-  unfolding wordsAfter wordsAfterRun rowsAfter rowsAfterRun
-  demand-1-untouched k p rows f = let e = refused-if (length lent) script k p f in (rw e, rw e)
+  -- "and the lent workspace stays untouched"
+  pub demand-1-untouched : (k p : ℕ) → First (length lent) script k p → after ≡ lent
+  unfolding wordsAfter wordsAfterRun
+  demand-1-untouched k p f = runs .words ∙ rw (refused-if (length lent) script k p f)
 
-  -- ---- demand 2
+-- .. and so do the lent rows
+pub demand-1-rows-untouched : (script choices lent rows : List ℕ) (a : Answer) (after rows′ : List ℕ) → Traces script choices a lent after rows rows′
+    → (k p : ℕ) → First (length lent) script k p → rows′ ≡ rows
+unfolding rowsAfter rowsAfterRun
+demand-1-rows-untouched script choices lent rows a after rows′ t k p f = t .rows ∙ rw (refused-if (length lent) script k p f)
 
-  -- "With workspace enough, a script is accepted exactly when the published layout and MiniOO scoping rules accept it."
-  pub demand-2-accepted : size ≤ length lent → (check (length lent) script ≡ Accepted → Published script) × (Published script → check (length lent) script ≡ Accepted)
-  demand-2-accepted h = (accepted-published (length lent) script are-bytes, published-accepted (length lent) script h)
+module _ (script choices lent : List ℕ) (a : Answer) (after : List ℕ) (runs : Runs script choices a lent after) (accepts : Accepts (length lent) script) where
+  accepted : check (length lent) script ≡ Accepted
+  accepted = accepts-only (length lent) script accepts
 
-  module _ (accepted : check (length lent) script ≡ Accepted) where
-    -- the run is the rules' run: same stop, same count of steps, same cells, same objects, same control
-    pub demand-2-answer : answer ≡ Ending (runScript script choices .end) (runScript script choices .steps)
-    demand-2-answer = accepted-answer (length lent) script choices accepted
+  -- the workspace after the run over other choices
+  lays : (cs : List ℕ) → wordsAfter script cs lent ≡ layout (runScript script cs .store) (runScript script cs .control) ++ drop size lent
+  unfolding wordsAfter wordsAfterRun
+  lays cs = rw accepted
 
-    pub demand-2-words : wordsAfter script choices lent ≡ layout (runScript script choices .store) (runScript script choices .control) ++ drop size lent
-    unfolding wordsAfter wordsAfterRun
-    demand-2-words = rw accepted
+  -- "A stop in mid-run leaves the workspace as the last finished step left it": after n steps the words are those that the
+  -- first n choices leave, each of which was a step
+  pub demand-1-last-step : (e : ℕ) (values : List ℕ) (n : ℕ) → Ends a e values n
+      → (after ≡ wordsAfter script (take n choices) lent) × (runScript script (take n choices) .steps ≡ n)
+  demand-1-last-step e values n f =
+      let counted = answer-ends (length lent) script choices accepted e values n (ap answerNumbers (sym (runs .answer)) ∙ f) .2 in (
+        runs .words ∙ subst (λ m. wordsAfter script choices lent ≡ wordsAfter script (take m choices) lent) counted (last-words script choices lent),
+        subst (λ m. runScript script (take m choices) .steps ≡ m) counted (last-step script choices .steps),
+      )
 
-    -- "A stop in mid-run leaves the workspace as the last finished step left it": after n steps the words are those that the
-    -- first n choices leave, each of which was a step
-    pub demand-1-last-step : (e : End) (n : ℕ) → answer ≡ Ending e n
-        → (wordsAfter script choices lent ≡ wordsAfter script (take n choices) lent) × (runScript script (take n choices) .steps ≡ n)
-    demand-1-last-step e n f = let a = answer-steps (length lent) script choices accepted e n f in (
-      subst (λ m. wordsAfter script choices lent ≡ wordsAfter script (take m choices) lent) a (last-words script choices lent),
-      subst (λ m. runScript script (take m choices) .steps ≡ m) a (last-step script choices .steps),
-    )
+  -- .. and that state is reached from the start by the choices used, one step each, as many as are counted
+  pub demand-1-reached : StartFits script → Left (rules script) choices 0 empty (some (start script)) (runScript script choices)
+  demand-1-reached h = reached script choices h
 
-    -- .. and that state is reached from the start by the choices used, one step each, as many as are counted
-    pub demand-1-reached : parts (begins (miniOO (scriptOf script)) (rootOf script)) ≤ mostParts
-        → Left (miniOO (scriptOf script)) choices 0 empty (some (begins (miniOO (scriptOf script)) (rootOf script))) (runScript script choices)
-    demand-1-reached h = reached script choices h
+  -- .. so a stop with 0 steps leaves the start state: no frame, no object, and the root opened
+  pub demand-1-no-step : StartFits script → (e : ℕ) (values : List ℕ) → Ends a e values 0 → after ≡ layout empty (some (start script)) ++ drop size lent
+  unfolding ran
+  demand-1-no-step h e values f =
+      demand-1-last-step e values 0 f .0 ∙ lays [] ∙ ap (λ (r : Ran Store). layout (r .store) (r .control) ++ drop size lent) (started script h)
 
-    -- .. so a stop with 0 steps leaves the start state: no frame, no object, and the root opened
-    pub demand-1-no-step : parts (begins (miniOO (scriptOf script)) (rootOf script)) ≤ mostParts → (e : End) → answer ≡ Ending e 0
-        → wordsAfter script choices lent ≡ layout empty (some (begins (miniOO (scriptOf script)) (rootOf script))) ++ drop size lent
-    unfolding wordsAfter wordsAfterRun ran
-    demand-1-no-step h e f =
-        demand-1-last-step e 0 f .0
-        ∙ rw accepted (ap (λ (r : Ran Store). layout (r .store) (r .control) ++ drop size lent) (started script h))
+  -- or the start has no room: a root that has more than 255 parts as opened: room 3 with 0 steps, and the workspace is zero throughout its size
+  pub demand-1-too-large : StartTooLarge script → Ends a 3 (3 ∷ []) 0 × (after ≡ replicate size 0 ++ drop size lent)
+  unfolding ran size endNo endValues stopNo stopValues
+  demand-1-too-large h =
+      let e = too-large script choices h in (
+        ap answerNumbers (runs .answer) ∙ subst (λ (r : Ran Store). Ends (answerOf (length lent) script choices) (endNo (r .end)) (endValues (r .end)) (r .steps)) e (accepted-answer (length lent) script choices accepted),
+        runs .words
+            ∙ lays choices
+            ∙ ap (λ (r : Ran Store). layout (r .store) (r .control) ++ drop size lent) e
+            ∙ ap (λ (l : List ℕ). l ++ drop size lent) start-zeros,
+      )
 
-    -- a root that has more than 255 parts as opened: room 3 with 0 steps, and the workspace is zero throughout its size
-    pub demand-1-too-large : mostParts < parts (begins (miniOO (scriptOf script)) (rootOf script))
-        → (answer ≡ Ending (Stopped (Full 3)) 0) × (wordsAfter script choices lent ≡ replicate size 0 ++ drop size lent)
-    unfolding ran size
-    demand-1-too-large h = let e = too-large script choices h in (
-      demand-2-answer ∙ ap (λ (r : Ran Store). Ending (r .end) (r .steps)) e,
-      demand-2-words ∙ ap (λ (r : Ran Store). layout (r .store) (r .control) ++ drop size lent) e ∙ ap (λ (l : List ℕ). l ++ drop size lent) start-zeros,
-    )
+pub start-fits-or-not : (script : List ℕ) → StartFits script ⊎ StartTooLarge script
+start-fits-or-not script = fits-or-not (parts (start script)) mostParts
 
-    -- ---- demand 3, of the answer and of the state in the words; at every other moment: the theorems named above
+-- ======== Demand 2
 
-    -- "So the run can stop only as done, as one of the seven faults, for the choices, or for room"
-    pub demand-3-ends : (e : End) (n : ℕ) → answer ≡ Ending e n → EndFits (scriptOf script) e
-    demand-3-ends e n f =
-        subst (EndFits (scriptOf script)) (answer-end (length lent) script choices accepted e n f)
-        (run-ends-as-said (length lent) script are-bytes accepted choices)
+-- "With workspace enough, a script is accepted exactly when the published layout and MiniOO scoping rules accept it."
+pub demand-2-accepted : (script : List ℕ) → Bytes script → (words : ℕ) → size ≤ words → Accepts words script ↔ Published script
+demand-2-accepted script b words h = (
+  λ e. accepted-published words script b (accepts-only words script e),
+  λ p. accepts-if words script (published-accepted words script h p),
+)
 
-    -- "and for room exactly when .."
-    pub demand-3-room : (k : ℕ) → ((n : ℕ) × (answer ≡ Ending (Stopped (Full k)) n)) ↔ ForRoom (scriptOf script) (rootOf script) choices k
-    demand-3-room k = (
-      λ x. room-only-when-needed (length lent) script are-bytes accepted choices k (answer-end (length lent) script choices accepted (Stopped (Full k)) (x .0) (x .1)),
-      λ r. (runScript script choices .steps, demand-2-answer ∙ rw (room-when-needed (length lent) script are-bytes accepted choices k r)),
-    )
+-- "An accepted script then runs step for step as the published MiniOO rules with static scoping say, with our stated changes": at
+-- every moment a step is made, or isn't, exactly as a rule says
+pub demand-2-by-rule : (script : List ℕ) → Bytes script → (words : ℕ) → Accepts words script → (choices : List ℕ)
+    → (s : Store) (t : Control) → At script choices s (some t)
+    → (i : ℕ) (out : Outcome Store) → (step (rules script) s t i ≡ out) ↔ Makes (scriptOf script) s t i out
+demand-2-by-rule script b words accepts choices s t x i out = (
+  λ e. paper-only (scriptOf script) s t i e (λ f. Demand3.no-rule-is-missing words script b (accepts-only words script accepts) choices s t x i (e ∙ f)),
+  λ d. paper-if (scriptOf script) s t i d,
+)
 
-    -- the state that the words lay out is a moment of the run, so all that is said of moments is true of it
-    pub demand-3-left : parts (begins (miniOO (scriptOf script)) (rootOf script)) ≤ mostParts
-        → Moment (miniOO (scriptOf script)) empty (rootOf script) choices (runScript script choices .store) (runScript script choices .control)
-    unfolding runScript
-    demand-3-left h = run-moment (scriptOf script) (rootOf script) choices h
+-- "same cells, same objects, same count of steps, same stop"
+module _ (script choices lent : List ℕ) (a : Answer) (after : List ℕ) (runs : Runs script choices a lent after) (accepts : Accepts (length lent) script) where
+  pub demand-2-answer : Ends a (endNo (runScript script choices .end)) (endValues (runScript script choices .end)) (runScript script choices .steps)
+  demand-2-answer = ap answerNumbers (runs .answer) ∙ accepted-answer (length lent) script choices (accepts-only (length lent) script accepts)
 
--- each shorter list of choices has its own state, and the run goes on from there; a run that has ended stays as it is
-pub demand-2-shorter : (script first later : List ℕ) → runScript script (first ++ later) ≡ goOn (miniOO (scriptOf script)) later (runScript script first)
-demand-2-shorter script first later = Runs.script-goes-on script first later
+  pub demand-2-words : after ≡ layout (runScript script choices .store) (runScript script choices .control) ++ drop size lent
+  unfolding wordsAfter wordsAfterRun
+  demand-2-words = runs .words ∙ rw (accepts-only (length lent) script accepts)
 
--- where the choices are used up, the count of steps is theirs
-pub demand-2-steps : (script choices : List ℕ) → runScript script choices .end ≡ UsedUp → runScript script choices .steps ≡ length choices
-demand-2-steps script choices e = Runs.script-used-up script choices e
+-- each shorter list of choices has its own state: where they are used up, end 4, the run goes on from there with the later ones, and
+-- its steps are as many as they; any other end stays as it is
+pub demand-2-goes-on : (script first later : List ℕ) → endNo (runScript script first .end) ≡ 4
+    → (runScript script (first ++ later) ≡ runFrom (rules script) later (runScript script first .steps) (runScript script first .store) (runScript script first .control))
+    × (runScript script first .steps ≡ length first)
+demand-2-goes-on script first later e =
+    let used = four-used-up (runScript script first .end) e in
+    (script-resumes script first later used, script-used-up script first used)
 
--- and each step is one of the published rules, with our stated changes
-pub demand-2-by-rule : (script : List ℕ) (s : Store) (t : Control) (i : ℕ) (out : Outcome Store)
-    → (Makes (scriptOf script) s t i out → step (miniOO (scriptOf script)) s t i ≡ out)
-    × (step (miniOO (scriptOf script)) s t i ≡ out → (out ≡ stops NoRule → ⊥) → Makes (scriptOf script) s t i out)
-demand-2-by-rule script s t i out = (paper-if (scriptOf script) s t i, paper-only (scriptOf script) s t i)
+pub demand-2-stays : (script first later : List ℕ) → (endNo (runScript script first .end) ≡ 4 → ⊥) → runScript script (first ++ later) ≡ runScript script first
+unfolding endNo
+demand-2-stays script first later n = script-finished script first later (λ e. n (ap endNo e))
+
+-- ======== Demand 3: "Take an accepted script and any list of choices, and look at any moment from the start to the stop."
+
+module _ (script : List ℕ) (are-bytes : Bytes script) (words : ℕ) (accepts : Accepts words script) (choices : List ℕ) where
+  is-accepted : check words script ≡ Accepted
+  is-accepted = accepts-only words script accepts
+
+  lies : (cs : List ℕ) (s : Store) (o : Option Control) → At script cs s o → Lies.Good s o
+  lies cs s o x =
+      let safe = Demand3.always-safe words script are-bytes is-accepted cs s o x in
+      store-good script (good words script is-accepted) s (safe .store) o (safe .control)
+
+  -- what a run leaves is a moment of it
+  pub demand-3-left : StartFits script → At script choices (runScript script choices .store) (runScript script choices .control)
+  unfolding runScript
+  demand-3-left h = run-moment (scriptOf script) (rootOf script) choices h
+
+  -- at every moment, when the choices so far are given, the words are the layout of just its store and control, after a step for each
+  pub demand-3-words : (s : Store) (o : Option Control) (x : At script choices s o)
+      → (lent : List ℕ) → length lent ≡ words → (a : Answer) (after : List ℕ) → Runs script (x .used) a lent after
+      → (after ≡ layout s o ++ drop size lent) × (runScript script (x .used) .steps ≡ length (x .used))
+  unfolding wordsAfter wordsAfterRun runScript
+  demand-3-words s o x lent l a after runs =
+      let r = moment-run (rules script) empty (rootOf script) choices s o x in
+      (runs .words ∙ rw (l, is-accepted, r .store, r .control), r .steps)
+
+  -- .. and they decide the cells, the objects and the control: two moments with the same words are of one state
+  pub demand-3-words-decide : (others : List ℕ) (s s′ : Store) (o o′ : Option Control) → At script choices s o → At script others s′ o′
+      → layout s o ≡ layout s′ o′ → (s ≡ s′) × (o ≡ o′)
+  demand-3-words-decide others s s′ o o′ x y e = decides s s′ o o′ (lies choices s o x) (lies others s′ o′ y) e
+
+  module _ (s : Store) (t : Control) (at : At script choices s (some t)) where
+    -- "Every name the next step could need is found, on its own command's chain, in a cell that exists."
+    pub needed-name-is-found : (i n : ℕ) (ch : Chain) (x : ℕ) → getElem? (movable t) i ≡ some (move n ch) → T (needs (scriptOf script .cmdAt n) x)
+        → Borne (s .frames) ch x
+    needed-name-is-found = Demand3.needed-name-is-found words script are-bytes is-accepted choices s t at
+
+    -- .. and no other name is needed: in any chain that bears those, a rule makes the command's step, or says why it isn't made
+    pub needed-names-suffice : (i n : ℕ) (ch : Chain) → getElem? (movable t) i ≡ some (move n ch)
+        → (dh : Chain) → ((x : ℕ) → T (needs (scriptOf script .cmdAt n) x) → Borne (s .frames) dh x)
+        → (out : Outcome Store) × Command (scriptOf script) s dh (scriptOf script .cmdAt n) out
+    needed-names-suffice i n ch p dh borne =
+        command-ruled (scriptOf script) s dh (scriptOf script .cmdAt n)
+        (Demand3.needed-names-suffice words script are-bytes is-accepted choices s t at i n ch p dh borne)
+
+    -- .. also for a command that waits
+    pub waiting-name-is-found : (n : ℕ) (ch : Chain) (x : ℕ) → Waits t n ch → T (needs (scriptOf script .cmdAt n) x) → Borne (s .frames) ch x
+    waiting-name-is-found = Demand3.waiting-name-is-found words script are-bytes is-accepted choices s t at
+
+  -- the frame found is the newest of the chain that bears the name; it is there, and bears it
+  pub found-frame-is-newest : (s : Store) (ch : Chain) (x : ℕ) (b : Borne (s .frames) ch x)
+      → Newest (s .frames) x ch (b .at) × ((f : Frame) × (getElem? (s .frames) (b .at) ≡ some f) × (f .name ≡ x))
+  found-frame-is-newest s ch x b = (
+    Demand3.found-frame-is-newest words script are-bytes is-accepted choices s ch x b,
+    Demand3.found-frame-is-there words script are-bytes is-accepted choices s ch x b,
+  )
+
+  module _ (s : Store) (o : Option Control) (at : At script choices s o) where
+    -- .. and a name that the body of a procedure held needs is its formal, or is found on the procedure's own chain
+    pub body-name-is-found : (n : ℕ) (ch : Chain) → HeldIn s (Proc n ch) → (y : ℕ) (c : Cmd) → scriptOf script .procAt n ≡ some (formal y c)
+        → (x : ℕ) → T (needs c x) → (y ≡ x) ⊎ Borne (s .frames) ch x
+    body-name-is-found = Demand3.body-name-is-found words script are-bytes is-accepted choices s o at
+
+    -- "Every object and procedure held anywhere exists", and what is held is a value; anywhere is each cell and each field
+    pub held-object-exists : (k : ℕ) → HeldIn s (Object k) → k < length (s .objects)
+    held-object-exists = Demand3.held-object-exists words script are-bytes is-accepted choices s o at
+
+    -- a procedure: a proc node of the script, whose chain's frame is there and whose body sees its names
+    pub held-procedure-is-a-proc : (n : ℕ) (ch : Chain) → HeldIn s (Proc n ch) → (n < nodesOf script) × (nodeAt script n .tag ≡ 7)
+    held-procedure-is-a-proc n = SafeUsed.held-procedure-is-a-proc words script are-bytes is-accepted choices s o at n
+
+    pub held-procedure-has-its-frame : (n k : ℕ) → HeldIn s (Proc n (From k)) → (f : Frame) × (getElem? (s .frames) k ≡ some f)
+    held-procedure-has-its-frame n = SafeUsed.held-procedure-has-its-frame words script are-bytes is-accepted choices s o at n
+
+    pub held-procedure-exists : (n : ℕ) (ch : Chain) → HeldIn s (Proc n ch) → IsProc (scriptOf script) (s .frames) n ch
+    held-procedure-exists = Demand3.held-procedure-exists words script are-bytes is-accepted choices s o at
+
+    -- .. of one of the kinds 1 to 6: zero is the kind of nothing
+    pub held-kind-is-not-zero : (v : Value) → HeldIn s v → OneTo 6 (kindNo v)
+    held-kind-is-not-zero = Zero.no-kind-is-zero words script are-bytes is-accepted choices s o at
+
+    pub nothing-is-never-held : HeldIn s Nothing → ⊥
+    nothing-is-never-held = Demand3.nothing-is-never-held words script are-bytes is-accepted choices s o at
+
+  pub cell-is-held : (s : Store) (k : ℕ) (f : Frame) → getElem? (s .frames) k ≡ some f → HeldIn s (f .cell)
+  cell-is-held = Demand3.cell-is-held words script are-bytes is-accepted choices
+
+  pub field-is-held : (s : Store) (o i : ℕ) (vs : List Value) (v : Value) → getElem? (s .objects) o ≡ some vs → getElem? vs i ≡ some v → HeldIn s v
+  field-is-held = Demand3.field-is-held words script are-bytes is-accepted choices
+
+  module _ (s : Store) (t : Control) (at : At script choices s (some t)) where
+    -- "From the step that enters an atomic block to the step that leaves it, only that block moves."
+    pub only-the-entered-block-moves : (i n : ℕ) (ch : Chain) → AtomMoves (scriptOf script) t i n ch
+        → (s₁ : Store) (o₁ : Option Control) → step (rules script) s t i ≡ goesTo s₁ o₁
+        → Sealed (rules script) t i n ch s₁ o₁
+    only-the-entered-block-moves = Demand3.only-the-entered-block-moves words script are-bytes is-accepted choices s t at
+
+    -- .. and while an atom is entered, the movable commands are those inside the innermost one
+    pub only-inside-an-entered-atom : atomIn t ≡ true → (x : Innermost t) × (movable t ≡ movable (x .inner))
+    only-inside-an-entered-atom = Demand3.only-inside-an-entered-atom words script are-bytes is-accepted choices s t at
+
+  -- "So the run can stop only as done, as one of the seven faults, for the choices, or for room"
+  pub demand-3-ends : (lent : List ℕ) → length lent ≡ words → (a : Answer) (after : List ℕ) → Runs script choices a lent after
+      → (e : ℕ) (values : List ℕ) (n : ℕ) → Ends a e values n → EndNumbered (nodesOf script) e values
+  demand-3-ends lent l a after runs e values n f =
+      let g = ap answerNumbers (ap (λ (m : ℕ). answerOf m script choices) (sym l) ∙ sym (runs .answer)) ∙ f in
+      let r = answer-ends words script choices is-accepted e values n g in
+      subst₂ (EndNumbered (nodesOf script)) (r .0) (r .1) (Demand3.run-ends-as-said words script are-bytes is-accepted choices)
+
+  -- "and for room exactly when a fitting choice is there and its step has no fault but needs an entry past a limit, or the script's
+  -- start already does."
+  pub demand-3-room : (lent : List ℕ) → length lent ≡ words → (a : Answer) (after : List ℕ) → Runs script choices a lent after
+      → (k : ℕ) → ((n : ℕ) × Ends a 3 (k ∷ []) n) ↔ ForRoom (scriptOf script) (rootOf script) choices k
+  demand-3-room lent l a after runs k =
+      let same = ap answerNumbers (runs .answer ∙ ap (λ (m : ℕ). answerOf m script choices) l) in (
+        λ x. Demand3.room-only-when-needed words script are-bytes is-accepted choices k (answer-room words script choices is-accepted k (x .0) (sym same ∙ x .1)),
+        λ r. (runScript script choices .steps, same ∙ room-answer words script choices is-accepted k (Demand3.room-when-needed words script are-bytes is-accepted choices k r)),
+      )
+
+-- what `ForRoom` asks of such a step is what a rule says: `NoRoom` is said in the words of `Step`
+pub no-room-by-rule : (script : List ℕ) (s : Store) (t : Control) (i k : ℕ) → NoRoom (scriptOf script) s t i k ↔ Makes (scriptOf script) s t i (stops (Full k))
+no-room-by-rule script s t i k = (
+  λ x. room-exactly (scriptOf script) s t i k .0 (room-if (scriptOf script) s t i k x),
+  λ d. room-only (scriptOf script) s t i k (room-exactly (scriptOf script) s t i k .1 d),
+)

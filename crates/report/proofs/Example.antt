@@ -4,18 +4,10 @@ use mathlib.Core.Path.{_≡_, refl}
 use mathlib.Core.Option.{none, some}
 use mathlib.Core.List.{List, [], _∷_, flatten}
 use lib.ListN.{replicate}
-use Rattle.laws.specs.Course.{tab, cov}
-use Rattle.rules.specs.Syntax.{cmdNo}
-use Rattle.rules.specs.Image.{fieldStart, fieldsOf, nodeStart, nodesOf, namesOf, codeAt, partOf, nodeAt, tags, rowIn, rowOf, kindOf, expOf, testOf, cmdOf, halves, make, makeBy, treeStep, treeAt}
-use Rattle.rules.specs.Scope.{has}
-use Rattle.rules.specs.Refusals.{size, badContents, rightLength, badCode, noRow, blank, stains, isKind, right, misfits, hit, hits, usesOf, badUse, outside, straysTree, reasonNo, broken, places, alone, order, orElse, atPlace, lowest, judge, check, straysExp, straysTest, straysCmd}
-use Rattle.rules.specs.State.{empty, mostFrames, mostParts, bearing, outward, find, withCell, change, pushFrame, putCell}
-use Rattle.rules.specs.Eval.{_>>=_, there, eval}
-use Rattle.rules.specs.Control.{parts, opened, atomIn, among, movable, andThen, left, both, put, fits}
-use Rattle.rules.specs.Step.{judged, chosen, plan, follow, step, newest, exec, apply, shortOf, withRoom, planned, miniOO}
-use Rattle.rules.specs.Run.{ran, onward, runFrom, run, scriptOf, rootOf, runScript}
+use Rattle.rules.specs.Image.{codeAt}
+use Rattle.rules.proofs.Opens.{opens}
 use Rattle.rules.specs.Numbers.{stopNo, endNo}
-use Rattle.rules.specs.Rows.{rowThen, rowsFrom, rows, rowWords, stepRow, rowsOf}
+use Rattle.words.specs.Lent.{rowThen, rowsFrom, rows, rowWords, stepRow, rowsOf}
 use Rattle.rules.specs.declared.Chain.the-variants.{Empty, From}
 use Rattle.rules.specs.declared.Value.the-variants.{Null, Int, Field, Proc, Fault}
 use Rattle.rules.specs.declared.Stop.the-variants.{Faulted, Full, OutOfRange}
@@ -38,7 +30,7 @@ wanted =
     "step choice node tag frames objects\n1 0 2 32 1 0\n2 0 1 35 1 0\nend 1 steps 2\ncell 0 name 0 int 1\n"
 
 pub listing-example : printed (some script) (some choices) ≡ wanted
-unfolding script choices wanted cmdNo fieldStart fieldsOf nodeStart nodesOf namesOf codeAt partOf nodeAt tags rowIn rowOf kindOf expOf testOf cmdOf halves make makeBy treeStep treeAt size badContents rightLength badCode noRow blank stains isKind right misfits hit hits usesOf badUse outside straysTree reasonNo broken places alone order orElse atPlace lowest judge check straysExp straysTest straysCmd empty mostFrames mostParts bearing outward find withCell change pushFrame putCell _>>=_ there eval parts opened atomIn among movable andThen left both put fits judged chosen plan follow step newest exec apply shortOf withRoom planned miniOO ran onward runFrom run scriptOf rootOf runScript stopNo endNo rowThen rowsFrom rows rowWords stepRow rowsOf digitCountBy digitCount decimal signed further line has headerLine rowLine rowLines endWords endLine valueWords cellLine cellLines objectLines runLines linesBy listingLines listing mostChoices printed tab cov flatten
+unfolding script choices wanted opens rowThen rowsFrom rows rowWords stepRow rowsOf digitCountBy digitCount decimal signed further line headerLine rowLine rowLines endWords endLine valueWords cellLine cellLines objectLines runLines linesBy listingLines listing mostChoices printed flatten
 listing-example = refl
 
 -- contents and codes of a script with the codes 12 and 7 at positions 0 and 1 (refused, but a line asks nothing of it)

@@ -7,7 +7,7 @@ use native.Mathlib.Nat.{add-zero, add-suc, suc-add}
 use lib.ListN.{length}
 use Rattle.rules.specs.declared.Value.{Value}
 use Rattle.rules.specs.declared.Frame.{Frame}
-use Rattle.rules.specs.Rows.{StepRow}
+use Rattle.words.specs.Lent.{StepRow}
 use Rattle.report.specs.Listing.{rowLine, rowLines, cellLine, cellLines, fieldLine, fieldLines, objectLines}
 
 pub flatten-append : (xs ys : List (List ℕ)) → flatten (xs ++ ys) ≡ flatten xs ++ flatten ys

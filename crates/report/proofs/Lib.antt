@@ -4,3 +4,4 @@ pub mod LineLaws
 pub mod EndLaws
 pub mod Example
 pub mod Growing
+pub mod Cases

@@ -7,7 +7,7 @@ use lib.ListN.{length}
 use Rattle.rules.specs.declared.Value.{Value}
 use Rattle.rules.specs.declared.Frame.{Frame}
 use Rattle.rules.specs.Image.{codeAt}
-use Rattle.rules.specs.Rows.{rowWords}
+use Rattle.words.specs.Lent.{rowWords}
 use Rattle.text.specs.Ascii.{ascii}
 use Rattle.text.specs.Text.{decimal, further, line, pair, last}
 use Rattle.report.specs.Listing.{headerLine, rowLine, refusedLine, valueWords, cellLine, fieldLine, noInput, choicesTooLong}

@@ -21,11 +21,11 @@ use Rattle.rules.specs.declared.End.the-variants.{Done, UsedUp, Stopped}
 use Rattle.rules.specs.declared.Verdict.{Verdict}
 use Rattle.rules.specs.declared.Verdict.the-variants.{Accepted, Refused}
 use Rattle.rules.specs.Image.{codeAt}
-use Rattle.rules.specs.Refusals.{size, check}
-use Rattle.rules.specs.State.{Store}
+use Rattle.rules.specs.State.{size, Store}
+use Rattle.rules.specs.Refusals.{check}
 use Rattle.rules.specs.Run.{Ran, runScript}
 use Rattle.rules.specs.Numbers.{endNo}
-use Rattle.rules.specs.Rows.{StepRow, rowWords, rowsOf}
+use Rattle.words.specs.Lent.{StepRow, rowWords, rowsOf}
 use Rattle.text.specs.Ascii.{ascii}
 use Rattle.text.specs.Text.{decimal, signed, line}
 

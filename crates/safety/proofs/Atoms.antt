@@ -14,11 +14,12 @@ use Rattle.rules.specs.declared.Next.{Next}
 use Rattle.rules.specs.declared.Next.the-variants.{Enters}
 use Rattle.rules.specs.declared.Stop.{Stop}
 use Rattle.rules.specs.declared.Stop.the-variants.{Full, OutOfRange}
-use Rattle.rules.specs.Control.{Control, entered, opened, Move, move, movable, left, put, fits, Nested}
-use Rattle.rules.specs.Step.{Machine, Plan, does, refuses, Outcome, goesTo, stops, judged, chosen, plan, follow, step}
-use Rattle.rules.specs.Around.{Around, plug, fill, Quiet}
+use Rattle.rules.specs.Control.{Control, entered, opened, Move, move, movable, Outcome, goesTo, stops}
+use Rattle.rules.specs.Step.{remains, put, fits, Machine, Plan, does, refuses, judged, chosen, plan, follow, step}
+use Rattle.safety.specs.Inside.{Nested}
+use Rattle.rules.proofs.Around.{Around, plug, fill, Quiet}
 use Rattle.safety.specs.Reaches.{Reaches, stays, goes}
-use Rattle.safety.specs.Atoms.{moved, EntersBlock, OnlyBlock, still-inside, was-left, Sealed}
+use Rattle.safety.specs.Atoms.{EntersBlock, OnlyBlock, still-inside, was-left, Sealed}
 use Rattle.safety.proofs.Focus.{Focus, focus}
 use Rattle.safety.proofs.AtomsInside.{moves-inside, puts-inside, fill-some, fits-inside}
 
@@ -48,10 +49,10 @@ module _ {S E : Type 0} (m : Machine S E) where
 
       -- what stands after the step of the inside alone, and of the whole
       inner : Next → Option Control
-      inner y = put (m .cmdAt) u i (left (m .cmdAt) y)
+      inner y = put (m .cmdAt) u i (remains (m .cmdAt) y)
 
       outer : Next → Option Control
-      outer y = put (m .cmdAt) t i (left (m .cmdAt) y)
+      outer y = put (m .cmdAt) t i (remains (m .cmdAt) y)
 
       fitted : (n : ℕ) (ch : Chain) (x : E) (y : Next) (b : Bool)
           → getElem? (movable u) i ≡ some (move n ch)
@@ -61,7 +62,7 @@ module _ {S E : Type 0} (m : Machine S E) where
           → Inner C u s i s′ o
       fitted n ch x y true p a f h =
           let w : outer y ≡ fill (m .cmdAt) C (Option·map entered (inner y)) =
-          puts-inside (m .cmdAt) C u i (left (m .cmdAt) y) q in
+          puts-inside (m .cmdAt) C u i (remains (m .cmdAt) y) q in
           let k : fits (inner y) ≡ true = fits-inside (m .cmdAt) C (inner y) (sym (ap fits w) ∙ f) in
           let z : m .apply x s ≡ s′ = cc in
           let v : outer y ≡ o = cc in
@@ -91,23 +92,13 @@ module _ {S E : Type 0} (m : Machine S E) where
 
   -- what is known of the choices after a step of the inside, with that step
   on-after : (C : Around) (u v : Control) (i : ℕ) (cs : List ℕ)
-      → (s s₁ s′ : S) (o′ : Option Control) (ms : List (Option Move))
+      → (s s₁ s′ : S) (o′ : Option Control)
       → step m s u i ≡ goesTo s₁ (some v)
-      → OnlyBlock m C v cs s₁ s′ o′ ms
-      → OnlyBlock m C u (i ∷ cs) s s′ o′ (getElem? (movable u) i ∷ ms)
-  unfolding moved
-  on-after C u v i cs s s₁ s′ o′ ms e (still-inside x) =
-      still-inside
-      (
-      record {
-        inner = x .inner;
-        stands = x .stands;
-        alone = goes e (x .alone);
-        moves = ap (λ l. getElem? (movable u) i ∷ l) (x .moves);
-        others-wait = x .others-wait;
-      }
-      )
-  on-after C u v i cs s s₁ s′ o′ ms e (was-left x) =
+      → OnlyBlock m C v cs s₁ s′ o′
+      → OnlyBlock m C u (i ∷ cs) s s′ o′
+  on-after C u v i cs s s₁ s′ o′ e (still-inside x) =
+      still-inside (record { inner = x .inner; alone = goes e (x .alone); stands = x .stands; others-wait = x .others-wait })
+  on-after C u v i cs s s₁ s′ o′ e (was-left x) =
       was-left
       (
       record {
@@ -119,33 +110,28 @@ module _ {S E : Type 0} (m : Machine S E) where
         control = x .control;
         closed = x .closed;
         on = x .on;
-        moves = ap (λ l. getElem? (movable u) i ∷ l) (x .moves);
       }
       )
 
   pub atom-run : (C : Around)
       → Quiet C
       → (s′ : S) (o′ : Option Control) (cs : List ℕ) (s : S) (o : Option Control)
-      → (r : Reaches m s′ o′ cs s o)
+      → Reaches m s′ o′ cs s o
       → (u : Control)
       → o ≡ some (plug C (entered u))
-      → OnlyBlock m C u cs s s′ o′ (moved m r)
-  unfolding moved
+      → OnlyBlock m C u cs s s′ o′
   atom-run C q s′ o′ _ _ _ stays u e =
-      still-inside (record { inner = u; stands = e; alone = stays; moves = refl; others-wait = moves-inside C u q })
+      still-inside (record { inner = u; alone = stays; stands = e; others-wait = moves-inside C u q })
   atom-run C q s′ o′ _ _ _ (goes {i = i} {cs = cs} {s = s} {t = t} {s₁ = s₁} {o = o} e r) u x =
       let w : t ≡ plug C (entered u) = Option·some-injective t (plug C (entered u)) x in
       let y : Inner C u s i s₁ o = atom-step C u s i s₁ o q (subst (λ z. step m s z i ≡ goesTo s₁ o) w e) in
-      subst
-      (λ l. OnlyBlock m C u (i ∷ cs) s s′ o′ (getElem? l i ∷ moved m r))
-      (sym (moves-inside C u q) ∙ ap movable (sym w))
-      (go (y .rest) (y .alone) (y .whole) (λ v. atom-run C q s′ o′ cs s₁ o r v))
+      go (y .rest) (y .alone) (y .whole) (λ v. atom-run C q s′ o′ cs s₁ o r v)
     where
       go : (p : Option Control)
           → step m s u i ≡ goesTo s₁ p
           → o ≡ fill (m .cmdAt) C (Option·map entered p)
-          → ((v : Control) → o ≡ some (plug C (entered v)) → OnlyBlock m C v cs s₁ s′ o′ (moved m r))
-          → OnlyBlock m C u (i ∷ cs) s s′ o′ (getElem? (movable u) i ∷ moved m r)
+          → ((v : Control) → o ≡ some (plug C (entered v)) → OnlyBlock m C v cs s₁ s′ o′)
+          → OnlyBlock m C u (i ∷ cs) s s′ o′
       go none a c f =
           was-left
           (
@@ -158,11 +144,9 @@ module _ {S E : Type 0} (m : Machine S E) where
             control = o;
             closed = c;
             on = r;
-            moves = refl;
           }
           )
-      go (some v) a c f =
-          on-after C u v i cs s s₁ s′ o′ (moved m r) a (f v (c ∙ fill-some (m .cmdAt) C (entered v)))
+      go (some v) a c f = on-after C u v i cs s s₁ s′ o′ a (f v (c ∙ fill-some (m .cmdAt) C (entered v)))
 
   -- ---- the step that enters a block
 
@@ -187,7 +171,7 @@ module _ {S E : Type 0} (m : Machine S E) where
       → (s₁ : S) (o₁ : Option Control)
       → step m s t i ≡ goesTo s₁ o₁
       → Sealed m t i n ch s₁ o₁
-  unfolding step follow left
+  unfolding step follow remains
   only-that-block-moves s t i n ch h x s₁ o₁ e =
       let p : Picks t i = picks s t i (x .effect) (Enters n ch) (x .plans) in
       let f : Focus (m .cmdAt) t (p .node) (p .chain) (put (m .cmdAt) t i) =
@@ -198,12 +182,10 @@ module _ {S E : Type 0} (m : Machine S E) where
       let w : o₁ ≡ some (plug (f .around) (entered u)) =
       sym k ∙ f .filled (some (entered u)) ∙ fill-some (m .cmdAt) (f .around) (entered u) in
       record {
-        around = f .around;
-        quiet = f .quiet;
         node = p .node;
         chain = p .chain;
         picks = p .is;
+        around = f .around;
         stood = f .is;
-        stands = w;
         only = λ cs s′ o′ r. atom-run (f .around) (f .quiet) s′ o′ cs s₁ o₁ r u w;
       }

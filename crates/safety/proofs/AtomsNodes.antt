@@ -2,7 +2,7 @@
 -- block moves until it is left. Assumes nothing.
 use Prim.Native.Nat.{ℕ}
 use mathlib.Core.Path.{_≡_, refl, sym, ap, _∙_}
-use mathlib.Core.Bool.{Bool, true, false}
+use mathlib.Core.Bool.{Bool, true, false, cond}
 use mathlib.Core.Option.{Option, some}
 use lib.ListN.{getElem?}
 use Rattle.rules.specs.Syntax.{Cmd, noCmd, var, call, malloc, assign, assignField, skip, seq, while, if, par, atom, cmdNo}
@@ -12,9 +12,11 @@ use Rattle.rules.specs.declared.Next.{Next}
 use Rattle.rules.specs.declared.Next.the-variants.{Ended, GoesOn, Repeats, Enters}
 use Rattle.rules.specs.declared.Effect.the-variants.{Keep}
 use Rattle.rules.specs.State.{Store}
-use Rattle.rules.specs.Eval.{Script, Procedure, formal, Res, ok, fault, stuck, _>>=_, Closure, closure, eval}
-use Rattle.rules.specs.Control.{Control, move, movable, Nested}
-use Rattle.rules.specs.Step.{does, goesTo, step, Deed, deed, enter, either, calling, exec, miniOO}
+use Rattle.rules.specs.Script.{Script, Procedure, formal}
+use Rattle.rules.specs.Eval.{Res, ok, fault, stuck, _>>=_, Closure, closure, eval}
+use Rattle.rules.specs.Control.{Control, move, movable, goesTo}
+use Rattle.safety.specs.Inside.{Nested}
+use Rattle.rules.specs.Step.{does, step, Deed, deed, enter, calling, exec, miniOO}
 use Rattle.safety.specs.Atoms.{EntersBlock, Sealed, AtomMoves}
 use Rattle.safety.specs.Rooms.{Does}
 use Rattle.safety.proofs.ReachesStep.{Goes, goes-only}
@@ -60,7 +62,7 @@ DoesAs ch c (deed e x) = EntersAs ch c x
 
 module _ (sc : Script) where
   exec-enters : (s : Store) (ch : Chain) (c : Cmd) → Gives (DoesAs ch c) (exec sc s ch c)
-  unfolding exec calling enter either
+  unfolding exec calling enter
   exec-enters s ch (noCmd n) = tt
   exec-enters s ch (var n x c) = tt
   exec-enters s ch (call n a b) =
@@ -84,12 +86,12 @@ module _ (sc : Script) where
   exec-enters s ch (seq n a b) = tt
   exec-enters s ch (while n t c) = gives-bind (DoesAs ch (while n t c)) _ _ (λ z. go z)
     where
-      go : (z : Bool) → EntersAs ch (while n t c) (either z (Repeats (cmdNo c) n ch) Ended)
+      go : (z : Bool) → EntersAs ch (while n t c) (cond z (Repeats (cmdNo c) n ch) Ended)
       go true = tt
       go false = tt
   exec-enters s ch (if n t a b) = gives-bind (DoesAs ch (if n t a b)) _ _ (λ z. go z)
     where
-      go : (z : Bool) → EntersAs ch (if n t a b) (either z (GoesOn (cmdNo a) ch) (GoesOn (cmdNo b) ch))
+      go : (z : Bool) → EntersAs ch (if n t a b) (cond z (GoesOn (cmdNo a) ch) (GoesOn (cmdNo b) ch))
       go true = tt
       go false = tt
   exec-enters s ch (par n a b) = tt

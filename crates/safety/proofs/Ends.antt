@@ -4,16 +4,16 @@
 use Prim.Native.Nat.{ℕ, suc, _+_}
 use mathlib.Core.Path.{_≡_, refl, sym, ap, subst, _∙_}
 use mathlib.Core.Option.{Option, none, some}
-use mathlib.Core.List.{List, [], _∷_, _++_, append-nil}
+use mathlib.Core.List.{List, [], _∷_, append-nil}
 use native.Mathlib.Omega.{arith}
 use lib.ListN.{length}
-use Rattle.rules.specs.Control.{Control}
+use Rattle.rules.specs.Control.{Control, Outcome, goesTo, stops}
 use Rattle.rules.specs.declared.Stop.{Stop}
 use Rattle.rules.specs.declared.End.{End}
 use Rattle.rules.specs.declared.End.the-variants.{Done, UsedUp, Stopped}
-use Rattle.rules.specs.Step.{Machine, Outcome, goesTo, stops, step}
+use Rattle.rules.specs.Step.{Machine, step}
 use Rattle.rules.specs.Run.{Ran, ran, onward, runFrom}
-use Rattle.safety.specs.Reaches.{Reaches, stays, goes, DoneAt, UsedUpAt, StoppedAt, EndsSo}
+use Rattle.safety.specs.Reaches.{Reaches, stays, goes, DoneAt, UsedUpAt, StoppedAt, EndsSo, Left}
 use Rattle.safety.proofs.Reaches.{run-reaches}
 
 module _ {S E : Type 0} (m : Machine S E) where
@@ -110,14 +110,7 @@ module _ {S E : Type 0} (m : Machine S E) where
 
   -- ---- what a run leaves is one of its moments, after as many steps as choices used
 
-  pub record Left (cs : List ℕ) (k : ℕ) (s : S) (o : Option Control) (r : Ran S) : Type 0 where
-    pub used : List ℕ
-    pub rest : List ℕ
-    pub is : cs ≡ used ++ rest
-    pub reached : Reaches m (r .store) (r .control) used s o
-    pub counts : r .steps ≡ k + length used
-
-  pub run-leaves : (cs : List ℕ) (k : ℕ) (s : S) (o : Option Control) → Left cs k s o (runFrom m cs k s o)
+  pub run-leaves : (cs : List ℕ) (k : ℕ) (s : S) (o : Option Control) → Left m cs k s o (runFrom m cs k s o)
   unfolding runFrom onward ran
   run-leaves [] k s none = record { used = []; rest = []; is = refl; reached = stays; counts = omega arith }
   run-leaves [] k s (some t) = record { used = []; rest = []; is = refl; reached = stays; counts = omega arith }
@@ -126,10 +119,10 @@ module _ {S E : Type 0} (m : Machine S E) where
     where
       go : (x : Outcome S)
           → step m s t i ≡ x
-          → ((s₁ : S) (o : Option Control) → Left cs (suc k) s₁ o (runFrom m cs (suc k) s₁ o))
-          → Left (i ∷ cs) k s (some t) (onward (runFrom m cs (suc k)) k s t x)
+          → ((s₁ : S) (o : Option Control) → Left m cs (suc k) s₁ o (runFrom m cs (suc k) s₁ o))
+          → Left m (i ∷ cs) k s (some t) (onward (runFrom m cs (suc k)) k s t x)
       go (goesTo s₁ o) e f =
-          let y : Left cs (suc k) s₁ o (runFrom m cs (suc k) s₁ o) = f s₁ o in
+          let y : Left m cs (suc k) s₁ o (runFrom m cs (suc k) s₁ o) = f s₁ o in
           record {
             used = i ∷ y .used;
             rest = y .rest;

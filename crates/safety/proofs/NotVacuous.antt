@@ -1,7 +1,7 @@
 -- The invariant of demand 3 isn't vacuous. Worked cases of document 01 are accepted, by computing, and made of bytes; so
 -- they are safe at every moment, and the state of some such moments is written out, one of them before a step that enters
--- an atom. And `Safe` is false of a state whose one command has a chain with no such frame, of one with a cell that holds
--- an object with no such number, and of one with two atoms entered side by side. Assumes nothing.
+-- an atom. And `Safe` is false of a state whose one command has a chain with no such frame, of one with a cell or
+-- a field that holds an object with no such number, and of one with two atoms entered side by side. Assumes nothing.
 use Prim.Native.Nat.{ℕ, zero, suc, _<_, _≤_}
 use mathlib.Core.Path.{_≡_, refl, sym, subst}
 use mathlib.Core.Bool.{Bool, true, false, _&&_}
@@ -11,21 +11,20 @@ use native.Mathlib.Omega.{arith}
 use lib.ListN.{length, getD, getElem?, replicate}
 use lib.Dec.{T, ltb, ltb→lt}
 use Rattle.rules.specs.declared.Chain.the-variants.{Empty, From}
+use Rattle.rules.specs.declared.Value.{Value}
 use Rattle.rules.specs.declared.Value.the-variants.{Int, Object, Proc}
 use Rattle.rules.specs.declared.Frame.{Frame}
 use Rattle.rules.specs.declared.Verdict.the-variants.{Accepted}
-use Rattle.rules.specs.Refusals.{size, check}
+use Rattle.rules.specs.State.{size, Store, empty, mostParts, frame}
+use Rattle.rules.specs.Refusals.{check}
 use Rattle.rules.specs.Published.{Bytes}
-use Rattle.rules.specs.State.{Store, empty, mostParts}
-use Rattle.rules.specs.Eval.{Script}
+use Rattle.rules.specs.Script.{Script, scriptOf, rootOf}
 use Rattle.rules.specs.Control.{Control, command, followed, beside, entered, parts, atomIn}
 use Rattle.rules.specs.Step.{miniOO}
-use Rattle.rules.specs.Run.{scriptOf, rootOf, runScript}
-use Rattle.rules.specs.Paper.{frame}
-use Rattle.rules.specs.Opens.{opens}
-use Rattle.rules.specs.Cases.{recursive, inAtom, ownStacks}
+use Rattle.rules.specs.Run.{runScript, begins}
+use Rattle.rules.proofs.Opens.{opens}
+use Rattle.rules.proofs.Cases.{recursive, inAtom, ownStacks}
 use Rattle.safety.specs.Safe.{FitCmd, Real, Safe}
-use Rattle.safety.specs.Reaches.{begins}
 use Rattle.safety.specs.Atoms.{Sealed, AtomMoves}
 use Rattle.safety.proofs.ReachesMoments.{run-moment}
 use Rattle.safety.proofs.Demand3.{At, always-safe, only-the-entered-block-moves}
@@ -115,7 +114,7 @@ h-before : At size inAtom h-bytes h-accepted (0 ∷ 0 ∷ []) (framesOnly (frame
 unfolding opens begins runScript
 h-before = run-moment (scriptOf inAtom) (rootOf inAtom) (0 ∷ 0 ∷ []) (omega arith)
 
-h-atom-moves : AtomMoves (scriptOf inAtom) (beside (command 11 (From 0)) (command 14 (From 0))) 0 10 (From 0)
+unfoldable pub h-atom-moves : AtomMoves (scriptOf inAtom) (beside (command 11 (From 0)) (command 14 (From 0))) 0 10 (From 0)
 unfolding opens
 h-atom-moves = record { node = 11; picks = refl; number = 11; inner = scriptOf inAtom .cmdAt 10; is = refl; inside = refl }
 
@@ -152,6 +151,16 @@ module _ (sc : Script) (s : Store) where
       → ⊥
   no-such-object o k m f e c h safe =
       let old : m < length (s .objects) = subst (Real sc s) c (safe .store .frames k f e .cell) in omega arith
+
+  -- .. or a field
+  pub no-such-object-in-a-field : (o : Option Control) (k i m : ℕ) (vs : List Value)
+      → getElem? (s .objects) k ≡ some vs
+      → getElem? vs i ≡ some (Object m)
+      → length (s .objects) ≤ m
+      → Safe sc s o
+      → ⊥
+  no-such-object-in-a-field o k i m vs e c h safe =
+      let old : m < length (s .objects) = safe .store .objects k vs e .fields i (Object m) c in omega arith
 
   -- two atoms entered side by side
   pub no-two-atoms : (l r : Control) → Safe sc s (some (beside (entered l) (entered r))) → ⊥

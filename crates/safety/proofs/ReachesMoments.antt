@@ -14,19 +14,20 @@ use Rattle.rules.specs.declared.Chain.{Chain}
 use Rattle.rules.specs.declared.Value.{Value}
 use Rattle.rules.specs.declared.Value.the-variants.{Nothing}
 use Rattle.rules.specs.State.{Store, empty, mostParts}
-use Rattle.rules.specs.Eval.{Script}
-use Rattle.rules.specs.Control.{Control, parts, atomIn, Move, move, movable, fits}
-use Rattle.rules.specs.Step.{goesTo, step, miniOO}
-use Rattle.rules.specs.Run.{runFrom, run}
+use Rattle.rules.specs.Script.{Script}
+use Rattle.rules.specs.Control.{Control, parts, atomIn, Move, move, movable, goesTo}
+use Rattle.rules.specs.Step.{fits, step, miniOO}
+use Rattle.rules.specs.Run.{runFrom, run, begins}
+use Rattle.rules.specs.Numbers.{endNo, endValues}
 use Rattle.rules.proofs.ControlLaws.{some-moves}
 use Rattle.safety.specs.Safe.{FitCmd, Real, Safe}
 use Rattle.safety.specs.Needs.{needs}
 use Rattle.safety.specs.Found.{Borne, HeldIn}
-use Rattle.safety.specs.Fits.{EndFits}
-use Rattle.safety.specs.Reaches.{begins, Moment}
+use Rattle.safety.specs.Reaches.{Moment, Left}
+use Rattle.safety.specs.Numbered.{EndNumbered}
 use Rattle.safety.specs.Atoms.{Innermost, Sealed, AtomMoves}
 use Rattle.safety.proofs.LinksNeeded.{names-found, held-exists, never-nothing}
-use Rattle.safety.proofs.Ends.{Left, run-leaves}
+use Rattle.safety.proofs.Ends.{run-leaves}
 use Rattle.safety.proofs.AtomsInside.{innermost, others-wait}
 use Rattle.safety.proofs.AtomsNodes.{only-that-atom-moves}
 use Rattle.safety.proofs.Preserved.{start-safe, reaches-safe, ready-at, run-sound}
@@ -79,8 +80,8 @@ module _ (sc : Script) (root : ℕ) (cs : List ℕ) (fit : FitCmd sc [] (sc .cmd
       (x, others-wait t x)
 
   -- The run can stop only as done, as one of the seven faults, for the choices, or for room.
-  pub ends-fit : EndFits sc ((run (miniOO sc) empty root cs) .end)
-  ends-fit = run-sound sc root cs fit .end
+  pub ends-numbered : EndNumbered (sc .nodes) (endNo (run (miniOO sc) empty root cs .end)) (endValues (run (miniOO sc) empty root cs .end))
+  ends-numbered = run-sound sc root cs fit .end
 
 -- While something is left in control, something can move.
 pub can-move : (t : Control) → (v : Move) × (getElem? (movable t) 0 ≡ some v)

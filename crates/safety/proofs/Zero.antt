@@ -4,40 +4,33 @@
 -- the number of a stored fault, nor the tag of a command that can move. Assumes that the script is made of bytes.
 use Prim.Native.Nat.{ℕ, zero, suc, _<_, _≤_}
 use mathlib.Core.Path.{_≡_, refl, ap, subst, _∙_}
-use mathlib.Core.Bool.{_&&_}
 use mathlib.Core.Option.{Option, none, some}
 use mathlib.Core.List.{List}
 use native.Mathlib.Omega.{arith}
 use lib.ListN.{getElem?}
-use lib.Dec.{T, leb, leb→le}
-use mir.Facts.{and-yes}
 use Rattle.rules.specs.declared.Chain.{Chain}
 use Rattle.rules.specs.declared.Value.{Value}
 use Rattle.rules.specs.declared.Value.the-variants.{Nothing, Null, Int, Field, Object, Proc, Fault}
-use Rattle.rules.specs.declared.Stop.{Stop}
-use Rattle.rules.specs.declared.Stop.the-variants.{Faulted, Full, OutOfRange, NoRule}
-use Rattle.rules.specs.declared.End.{End}
-use Rattle.rules.specs.declared.End.the-variants.{Done, UsedUp, Stopped}
 use Rattle.rules.specs.declared.Verdict.{Verdict}
 use Rattle.rules.specs.declared.Verdict.the-variants.{Accepted, Refused}
-use Rattle.rules.specs.declared.Answer.{Answer}
-use Rattle.rules.specs.declared.Answer.the-variants.{Refusal, Ending}
 use Rattle.rules.specs.declared.Node.{Node}
 use Rattle.rules.specs.Image.{Row, Tree, isNone, rowIn, rowOf, tags, makeBy, treeAt, cmdOf, fieldsOf, nodesOf, codeAt, nodeAt}
 use Rattle.rules.specs.Refusals.{check}
 use Rattle.rules.specs.Published.{Bytes}
-use Rattle.rules.specs.Good.{RowFits}
+use Rattle.rules.proofs.GoodFacts.{RowFits}
+use Rattle.rules.proofs.Good.{good}
 use Rattle.rules.specs.State.{Store}
 use Rattle.rules.specs.Control.{Control, move, movable}
-use Rattle.rules.specs.Run.{scriptOf, rootOf, runScript, answered, answerOf}
-use Rattle.rules.specs.Numbers.{kindNo, stopNo, endNo}
+use Rattle.rules.specs.Script.{scriptOf, rootOf}
+use Rattle.rules.specs.Run.{runScript, answered, answerOf}
+use Rattle.rules.specs.Numbers.{kindNo, stopNo, endNo, verdictNumbers, answerNumbers}
 use Rattle.rules.proofs.Reasons.{refusal-number}
-use Rattle.rules.proofs.Good.{good}
 use Rattle.rules.proofs.Trees.{treeAt-is}
 use Rattle.safety.specs.Safe.{FitCmd, Real}
-use Rattle.safety.specs.Numbered.{OneTo, StopNumbered, EndNumbered, Numbered}
+use Rattle.safety.specs.Numbered.{OneTo, VerdictNumbered, accepted, refused, Numbered, refusal, ending}
 use Rattle.safety.specs.Found.{HeldIn}
-use Rattle.safety.specs.Fits.{EndFits}
+use Rattle.safety.proofs.NumberedOnly.{one-of-five}
+use Rattle.safety.proofs.Stops.{between}
 use Rattle.safety.proofs.Accepted.{accepted-fits}
 use Rattle.safety.proofs.Preserved.{ready-at}
 use Rattle.safety.proofs.ReachesMoments as Moments
@@ -45,32 +38,26 @@ use Rattle.safety.proofs.Demand3.{At, always-safe, run-ends-as-said}
 
 -- ---- every answer
 
-between : (m k : ℕ) → T (leb 1 k && leb k m) → OneTo m k
-between m k h = let p = and-yes (leb 1 k) (leb k m) h in (leb→le 1 k (p .0), leb→le k m (p .1))
-
 module _ (words : ℕ) (bytes : List ℕ) (are-bytes : Bytes bytes) where
-  -- an accepted script's end has a number, and so have its fault, its node and its room
-  pub no-end-is-zero : check words bytes ≡ Accepted → (choices : List ℕ)
-      → OneTo 5 (endNo (runScript bytes choices .end)) × EndNumbered (nodesOf bytes) (runScript bytes choices .end)
-  unfolding endNo stopNo scriptOf
-  no-end-is-zero accepted choices =
-      go (runScript bytes choices .end) (run-ends-as-said words bytes are-bytes accepted choices)
-    where
-      go : (e : End) → EndFits (scriptOf bytes) e → OneTo 5 (endNo e) × EndNumbered (nodesOf bytes) e
-      go Done h = ((omega arith, omega arith), tt)
-      go UsedUp h = ((omega arith, omega arith), tt)
-      go (Stopped (Faulted k n)) h = ((omega arith, omega arith), (between 7 k (h .0), h .1))
-      go (Stopped (Full k)) h = ((omega arith, omega arith), between 3 k h)
-      go (Stopped OutOfRange) h = ((omega arith, omega arith), tt)
-      go (Stopped NoRule) h = absurd h
+  -- an accepted script's end has a number
+  pub no-end-is-zero : check words bytes ≡ Accepted → (choices : List ℕ) → OneTo 5 (endNo (runScript bytes choices .end))
+  no-end-is-zero ok choices = one-of-five (nodesOf bytes) _ _ (run-ends-as-said words bytes are-bytes ok choices)
 
-  pub no-answer-is-zero : (choices : List ℕ) → Numbered (nodesOf bytes) (answerOf words bytes choices)
-  unfolding answerOf answered
+  pub no-answer-is-zero : (choices : List ℕ) → Numbered (nodesOf bytes) (answerNumbers (answerOf words bytes choices))
+  unfolding answerOf answered answerNumbers
   no-answer-is-zero choices = go (check words bytes) refl
     where
-      go : (v : Verdict) → check words bytes ≡ v → Numbered (nodesOf bytes) (answered v (runScript bytes choices))
-      go Accepted e = no-end-is-zero e choices
-      go (Refused k p) e = refusal-number words bytes k p e
+      go : (v : Verdict) → check words bytes ≡ v → Numbered (nodesOf bytes) (answerNumbers (answered v (runScript bytes choices)))
+      go Accepted e = ending (runScript bytes choices .steps) (run-ends-as-said words bytes are-bytes e choices)
+      go (Refused k p) e = refusal (refusal-number words bytes k p e)
+
+  pub no-verdict-is-zero : VerdictNumbered (verdictNumbers (check words bytes))
+  unfolding verdictNumbers
+  no-verdict-is-zero = go (check words bytes) refl
+    where
+      go : (v : Verdict) → check words bytes ≡ v → VerdictNumbered (verdictNumbers v)
+      go Accepted e = accepted
+      go (Refused k p) e = refused (refusal-number words bytes k p e)
 
 -- ---- an accepted script
 

@@ -1,8 +1,9 @@
+pub mod Inside
 pub mod Safe
 pub mod Needs
 pub mod Found
+pub mod Numbered
 pub mod Fits
 pub mod Reaches
 pub mod Atoms
 pub mod Rooms
-pub mod Numbered

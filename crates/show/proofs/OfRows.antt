@@ -8,8 +8,7 @@ use native.Mathlib.Nat.{add-zero}
 use lib.ListN.{length, getD, getElem?, set, length-set}
 use lib.Seq.{sets, length-sets, getD-set-same, getD-set-other}
 use borrow.Author.Tests.{le-leb}
-use Rattle.rules.specs.Rows.{StepRow, rowWords}
-use Rattle.rules.specs.Lent.{placeRow, placeRows}
+use Rattle.words.specs.Lent.{StepRow, rowWords, placeRow, placeRows}
 use Rattle.show.specs.Entries.{rowIn, rowsIn}
 use Rattle.show.proofs.Listed.{listed-is}
 

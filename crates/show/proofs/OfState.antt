@@ -9,8 +9,8 @@ use lib.ListN.{length, getD, getElem?}
 use Rattle.rules.specs.declared.Value.{Value}
 use Rattle.rules.specs.State.{Store}
 use Rattle.rules.specs.Control.{Control}
-use Rattle.rules.specs.Image.{fieldsOf}
-use Rattle.rules.specs.Layout.{valueWord, mostFields}
+use Rattle.rules.specs.Image.{fieldsOf, mostFields}
+use Rattle.words.specs.Layout.{valueWord}
 use Rattle.words.specs.Decode.{valueOf}
 use Rattle.words.specs.Lies.{Lies}
 use Rattle.words.proofs.Back.{value-small, value-back}
@@ -44,7 +44,7 @@ module _ (s : Store) (c : Option Control) (rest ws : List ℕ) (h : Lies s c res
   module _ (script : List ℕ)
       (full : (k : ℕ) (vs : List Value) → getElem? (s .objects) k ≡ some vs → length vs ≡ fieldsOf script) where
     object-is : (o : ℕ) (vs : List Value) → getElem? (s .objects) o ≡ some vs → objectIn script ws o ≡ vs
-    unfolding objectIn fieldsUpTo mostFields
+    unfolding objectIn fieldsUpTo
     object-is o vs e =
         let l = full o vs e in
         let few = h .good .objects o vs e .few in

@@ -8,7 +8,7 @@ use lib.ListN.{length}
 use Rattle.rules.specs.declared.End.{End}
 use Rattle.rules.specs.State.{Store}
 use Rattle.rules.specs.Run.{Ran}
-use Rattle.rules.specs.Rows.{StepRow}
+use Rattle.words.specs.Lent.{StepRow}
 use Rattle.report.specs.Listing.{headerLine, rowLines, endLine, cellLines, objectLines, runLines}
 use Rattle.report.proofs.Growing.{flatten-append}
 use Rattle.text.specs.Written.{Wrote, Line}

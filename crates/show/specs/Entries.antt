@@ -8,7 +8,7 @@ use Rattle.rules.specs.declared.Value.{Value}
 use Rattle.rules.specs.declared.Frame.{Frame}
 use Rattle.rules.specs.declared.End.{End}
 use Rattle.rules.specs.Image.{fieldsOf}
-use Rattle.rules.specs.Rows.{StepRow}
+use Rattle.words.specs.Lent.{StepRow}
 use Rattle.words.specs.Decode.{valueOf, frameOf}
 use Rattle.report.specs.Listing.{headerLine, rowLines, endLine, cellLines, objectLines}
 

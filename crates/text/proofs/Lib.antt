@@ -3,3 +3,4 @@ pub mod LineLaws
 pub mod DecimalLaws
 pub mod SignedLaws
 pub mod Determined
+pub mod Cases

@@ -4,7 +4,7 @@ use super::scope::lowest_stray;
 use super::tree::{tree, Command};
 use super::Wrong;
 use crate::image::{children, kind, row, Kind, Node, Word};
-use crate::subject::{Verdict, SIZE};
+use crate::subject::{Refusal, Verdict, SIZE};
 use std::rc::Rc;
 
 /// An accepted script.
@@ -13,11 +13,11 @@ pub struct Script {
     pub root: Rc<Command>,
 }
 
-fn refused<T>(number: u32, place: usize) -> Result<T, Verdict> {
-    Err(Verdict { number, place: Some(place as u32) })
+fn refused<T>(number: u32, place: usize) -> Result<T, Refusal> {
+    Err(Refusal { number, place: place as u32 })
 }
 
-pub fn checked(script: &[u8], workspace_words: usize, wrong: Option<Wrong>) -> Result<Script, Verdict> {
+pub fn checked(script: &[u8], workspace_words: usize, wrong: Option<Wrong>) -> Result<Script, Refusal> {
     if workspace_words < SIZE {
         return refused(10, 0);
     }
@@ -48,7 +48,7 @@ pub fn checked(script: &[u8], workspace_words: usize, wrong: Option<Wrong>) -> R
 }
 
 /// Refusal 4. Zero is below every code, so "above the one before, or above zero" says both halves of the rule.
-fn rising(codes: &[u16]) -> Result<(), Verdict> {
+fn rising(codes: &[u16]) -> Verdict {
     let mut before = 0;
     for (position, &code) in codes.iter().enumerate() {
         if code <= before {
@@ -60,7 +60,7 @@ fn rising(codes: &[u16]) -> Result<(), Verdict> {
 }
 
 /// Refusals 5, 6 and 7 at one node.
-fn well_formed(nodes: &[Node], number: usize, fields: usize, names: u16) -> Result<(), Verdict> {
+fn well_formed(nodes: &[Node], number: usize, fields: usize, names: u16) -> Verdict {
     let [tag, operands @ ..] = nodes[number];
     let Some(row) = row(tag) else { return refused(5, number) };
     if row.iter().zip(operands).any(|(is, word)| *is == Word::Unused && word != 0) {
@@ -81,7 +81,7 @@ fn well_formed(nodes: &[Node], number: usize, fields: usize, names: u16) -> Resu
 }
 
 /// Refusal 8. The root is above all other nodes and so is no child; only its kind is asked.
-fn used_once(nodes: &[Node]) -> Result<(), Verdict> {
+fn used_once(nodes: &[Node]) -> Verdict {
     let mut uses = vec![0; nodes.len()];
     for child in nodes.iter().copied().flat_map(children) {
         uses[child] += 1;

@@ -3,7 +3,7 @@
 use super::check::checked;
 use super::machine::{End, Machine};
 use super::store::Value;
-use crate::subject::SIZE;
+use crate::subject::{Refusal, SIZE};
 use std::fmt::Write;
 use std::rc::Rc;
 
@@ -18,10 +18,7 @@ pub fn listing(script: Option<&[u8]>, choices: Option<&[u8]>) -> String {
     }
     let script = match checked(script, SIZE, None) {
         Ok(script) => Rc::new(script),
-        Err(verdict) => {
-            let place = verdict.place.expect("a refusal has a place");
-            return format!("refused {} at {place}\n", verdict.number);
-        }
+        Err(Refusal { number, place }) => return format!("refused {number} at {place}\n"),
     };
     let mut text = String::from("step choice node tag frames objects\n");
     let mut step = 0;

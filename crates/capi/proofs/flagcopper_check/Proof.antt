@@ -16,7 +16,7 @@ say-requires c κs = search needs
 
 -- src/lib.rt:87:1
 returns : tie.Need-returns
-returns c = c .say .ensures ∙ ap (λ (x : Verdict). checkedOf x) (c .before .check .ensures)
+returns c = c .say .ensures ∙ ap (λ (x : Verdict). checkedOf x) (c .before .check .ensures .verdict)
 
 pub flagcopper-check-spec : {M : Type 1} → statement M
 flagcopper-check-spec = tie.close (tie.spec check-requires say-requires returns)

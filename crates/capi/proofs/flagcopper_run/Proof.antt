@@ -20,7 +20,7 @@ same-length c = search needs
 
 -- src/lib.rt:95:1
 returns : tie.Need-returns
-returns c = (c .tell .ensures ∙ ap (λ (x : Answer). toldOf x) (c .before .before .before .run .ensures .0), c .before .before .before .run .ensures .1)
+returns c = (c .tell .ensures ∙ ap (λ (x : Answer). toldOf x) (c .before .before .before .run .ensures .answer), c .before .before .before .run .ensures .words)
 
 pub flagcopper-run-spec : {M : Type 1} → statement M
 flagcopper-run-spec = tie.close (tie.spec run-requires tell-requires same-length returns)

@@ -1,6 +1,6 @@
 -- `capi::flagcopper_size` meets its contract: the number is the definitions' sum. Assumes nothing.
 use mathlib.Core.Path.{refl}
-use Rattle.rules.specs.Refusals.{size}
+use Rattle.rules.specs.State.{size}
 use Rattle.capi.proofs.flagcopper_size.Statement.{statement}
 use Rattle.capi.proofs.flagcopper_size.Tie as tie
 

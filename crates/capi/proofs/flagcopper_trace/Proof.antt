@@ -1,7 +1,7 @@
 -- `capi::flagcopper_trace` meets its contract: the answer of `interpreter::trace`, told in numbers. Assumes nothing.
 use mathlib.Core.Path.{ap, _∙_}
 use Rattle.rules.specs.declared.Answer.{Answer}
-use Rattle.holds.specs.Says.{FaceSays}
+use Rattle.words.specs.Contracts.{Traces}
 use Rattle.capi.specs.Told.{toldOf}
 use borrow.Author.Needs.{needs}
 use Rattle.capi.proofs.flagcopper_trace.Statement.{statement}

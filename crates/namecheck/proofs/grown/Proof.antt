@@ -3,7 +3,7 @@
 use Rattle.image.specs.declared.Operand.{Operand}
 use Rattle.image.specs.Tags.{roleIs}
 use Rattle.checklaws.specs.Bits.{NameFits}
-use Rattle.checklaws.specs.Hands.{growWord}
+use Rattle.rules.proofs.StrayRows.{growWord}
 use mathlib.Core.Path.{subst}
 use borrow.Author.Needs.{needs}
 use Rattle.namecheck.proofs.grown.Statement.{statement}

@@ -4,7 +4,7 @@ use Rattle.image.specs.declared.Operand.{Operand}
 use Rattle.image.specs.Tags.{roleIs}
 use mathlib.Core.Bool.{not}
 use Rattle.checklaws.specs.Bits.{NameFits}
-use Rattle.checklaws.specs.Hands.{strayWord}
+use Rattle.rules.proofs.StrayRows.{strayWord}
 use mathlib.Core.Path.{ap, subst}
 use borrow.Author.Needs.{needs}
 use Rattle.namecheck.proofs.stray.Statement.{statement}

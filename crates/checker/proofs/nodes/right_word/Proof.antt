@@ -3,7 +3,7 @@
 use mathlib.Core.Path.{ap, _∙_}
 use Rattle.checklaws.proofs.Words.{child-right}
 use Rattle.rules.specs.Image.{anExp, aTest, aCmd}
-use Rattle.rules.specs.Refusals.{isKind, right}
+use Rattle.rules.specs.Refusals.{isKind, suits}
 use borrow.Author.Needs.{needs}
 use Rattle.checker.proofs.nodes.right_word.Statement.{statement}
 use Rattle.checker.proofs.nodes.right_word.Tie as tie
@@ -60,23 +60,23 @@ is-cmd-requires : tie.Need-is-cmd-requires
 is-cmd-requires c κs = search needs
 
 returns : tie.Need-returns
-unfolding right
+unfolding suits
 returns c = rw (c .enum-told .given .1)
 
 returns-2 : tie.Need-returns-2
-unfolding right
+unfolding suits
 returns-2 c = rw (c .before .enum-told2 .given .1) (c .index-right .ensures)
 
 returns-3 : tie.Need-returns-3
-unfolding right
+unfolding suits
 returns-3 c = rw (c .enum-told3 .given .1)
 
 returns-4 : tie.Need-returns-4
-unfolding right
+unfolding suits
 returns-4 c = rw (c .before .enum-told4 .given .1) (c .name-right .ensures)
 
 returns-5 : tie.Need-returns-5
-unfolding right
+unfolding suits
 returns-5 c = rw (c .before .enum-told5 .given .1) (c .name-right2 .ensures)
 
 returns-6 : tie.Need-returns-6

@@ -1,0 +1,47 @@
+-- The words in which the promises are said: an answer by document 01's numbers (`Numbers` of the rules), acceptance, the start
+-- of a run, and its moments. Assumes nothing.
+use Prim.Native.Nat.{ℕ}
+use mathlib.Core.Path.{_≡_}
+use mathlib.Core.Option.{Option}
+use mathlib.Core.List.{List, [], _∷_, _++_}
+use Rattle.rules.specs.declared.Answer.{Answer}
+use Rattle.rules.specs.declared.Effect.{Effect}
+use Rattle.rules.specs.State.{Store, empty}
+use Rattle.rules.specs.Script.{scriptOf, rootOf}
+use Rattle.rules.specs.Refusals.{check}
+use Rattle.rules.specs.Control.{Control}
+use Rattle.rules.specs.Step.{Machine, miniOO}
+use Rattle.rules.specs.Run.{begins}
+use Rattle.rules.specs.Numbers.{verdictNumbers, refusedWith, endedWith, answerNumbers}
+use Rattle.safety.specs.Reaches as Reaches
+use Rattle.safety.specs.Reaches.{Moment}
+
+-- the answer is the refusal k at place p
+abbrev pub Refuses : Answer → ℕ → ℕ → Type 0
+Refuses a k p = answerNumbers a ≡ refusedWith (k ∷ p ∷ [])
+
+-- the answer is the end e, with these values, after n steps
+abbrev pub Ends : Answer → ℕ → List ℕ → ℕ → Type 0
+Ends a e values n = answerNumbers a ≡ endedWith (e ∷ (values ++ (n ∷ [])))
+
+-- with so many words for a run, `check` gives no refusal
+abbrev pub Accepts : ℕ → List ℕ → Type 0
+Accepts words script = verdictNumbers (check words script) ≡ []
+
+-- the machine of the rules for a script, and the control that it begins with: the root, opened, with no frame
+abbrev pub rules : List ℕ → Machine Store Effect
+rules script = miniOO (scriptOf script)
+
+abbrev pub start : List ℕ → Control
+start script = begins (rules script) (rootOf script)
+
+-- the start needs no part past the limit; or it does
+abbrev pub StartFits : List ℕ → Type 0
+StartFits script = Reaches.StartFits (rules script) (rootOf script)
+
+abbrev pub StartTooLarge : List ℕ → Type 0
+StartTooLarge script = Reaches.StartTooLarge (rules script) (rootOf script)
+
+-- a moment of the run, from the start to the stop: this store, and this control
+abbrev pub At : List ℕ → List ℕ → Store → Option Control → Type 0
+At script choices s o = Moment (rules script) empty (rootOf script) choices s o

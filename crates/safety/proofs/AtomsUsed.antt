@@ -1,0 +1,201 @@
+-- What a sealed block gives, for any machine. While the block, run alone, hasn't ended, the whole is where it is, all
+-- around as it was, and a command that isn't the block's own can't be picked (`block-open`, `no-other-moves`); so the
+-- commands that move are the block's own, one by one (`block-moves`). When it has ended, the run goes on from what stood
+-- around it, with nothing at its place (`block-left`). Only fields of `Sealed` are used. Assumes nothing.
+use Prim.Native.Nat.{ℕ}
+use mathlib.Core.Path.{_≡_, refl, sym, ap, subst, _∙_}
+use mathlib.Core.Option.{Option, none, some, Option·none-ne-some, Option·some-injective}
+use mathlib.Core.List.{List, [], _∷_, _++_}
+use lib.ListN.{getElem?}
+use Rattle.rules.specs.declared.Chain.{Chain}
+use Rattle.rules.specs.State.{Store}
+use Rattle.rules.specs.Script.{Script}
+use Rattle.rules.specs.Control.{Control, command, entered, opened, Move, move, movable, goesTo}
+use Rattle.rules.specs.Step.{Machine, step, miniOO}
+use Rattle.rules.proofs.Around.{Around, plug, fill}
+use Rattle.safety.specs.Reaches.{Reaches, stays, goes}
+use Rattle.safety.specs.Atoms.{OnlyBlock, still-inside, was-left, Sealed, AtomMoves}
+use Rattle.safety.proofs.Reaches.{Between, reach-on, reach-split, reach-same}
+
+module _ {S E : Type 0} (m : Machine S E) where
+  -- the commands that moved in a run, one for each choice
+  unfoldable pub moved : {s′ : S} {o′ : Option Control} {cs : List ℕ} {s : S} {o : Option Control}
+      → Reaches m s′ o′ cs s o
+      → List (Option Move)
+  moved stays = []
+  moved (goes {i = i} {t = t} e r) = getElem? (movable t) i ∷ moved r
+
+  -- ---- a run that has ended
+
+  -- where nothing is left in control, no choice is used
+  pub ended-stays : (cs : List ℕ) (s s′ : S) (o′ : Option Control) → Reaches m s′ o′ cs s none → (cs ≡ []) × (s′ ≡ s) × (o′ ≡ none)
+  ended-stays _ s _ _ stays = (refl, refl, refl)
+
+  ended-moves : (cs : List ℕ) (s s₁ : S) (q p : Option Control)
+      → (a : Reaches m s₁ p cs s q)
+      → q ≡ none
+      → (s₂ s′ : S) (o₂ o′ : Option Control) (r : Reaches m s′ o′ cs s₂ o₂)
+      → moved r ≡ moved a
+  unfolding moved
+  ended-moves _ _ _ _ _ stays h _ _ _ _ stays = refl
+  ended-moves _ _ _ _ _ (goes {t = t} e a) h _ _ _ _ r = absurd (Option·none-ne-some t (sym h))
+
+  -- with choices of which a first part is a run to the end, nothing else is left
+  after-end : (cs ds : List ℕ) (s s₁ s₂ : S) (o : Option Control) (v : Control)
+      → Reaches m s₁ none cs s o
+      → Reaches m s₂ (some v) (cs ++ ds) s o
+      → ⊥
+  after-end cs ds s s₁ s₂ o v a b =
+      let x : Between m s₂ (some v) ds cs s o = reach-split m cs ds s₂ (some v) s o b in
+      let e : x .control ≡ none = reach-same m cs s o (x .store) s₁ (x .control) none (x .first) a .1 in
+      let r : Reaches m s₂ (some v) ds (x .store) none =
+      subst (λ (p : Option Control). Reaches m s₂ (some v) ds (x .store) p) e (x .then) in
+      Option·none-ne-some v (sym (ended-stays ds (x .store) s₂ (some v) r .2))
+
+  -- a run ends once
+  ends-once : (cs ds xs ys : List ℕ) (s s₁ s₂ : S) (o : Option Control)
+      → Reaches m s₁ none cs s o
+      → Reaches m s₂ none ds s o
+      → cs ++ xs ≡ ds ++ ys
+      → (s₁ ≡ s₂) × (xs ≡ ys)
+  ends-once _ ds xs ys s _ s₂ _ stays b e =
+      let x : (ds ≡ []) × (s₂ ≡ s) × (none ≡ none) = ended-stays ds s s₂ none b in
+      (sym (x .1), e ∙ ap (λ l. l ++ ys) (x .0))
+  ends-once _ _ xs ys _ s₁ s₂ _ (goes {i = i} {cs = cs} {s = s} {t = t} {s₁ = s₃} {o = o} e a) (goes {i = j} {cs = ds} {s₁ = s₄} {o = p} f b) h =
+      let k : i ≡ j = cc in
+      let q : goesTo s₄ p ≡ goesTo s₃ o = sym f ∙ ap (step m s t) (sym k) ∙ e in
+      let x : s₄ ≡ s₃ = cc in
+      let y : p ≡ o = cc in
+      ends-once cs ds xs ys s₃ s₁ s₂ o a (subst (λ z. Reaches m s₂ none ds z o) x (subst (λ z. Reaches m s₂ none ds s₄ z) y b)) (cc)
+
+  -- ---- the block, by its run alone
+
+  -- the whole at a moment of the block's run: the same store; the block at its place; and nothing else can move
+  pub record Open (C : Around) (v : Control) (s₁ s′ : S) (o′ : Option Control) : Type 0 where
+    pub store : s′ ≡ s₁
+    pub stands : o′ ≡ some (plug C (entered v))
+    pub others-wait : movable (plug C (entered v)) ≡ movable v
+
+  module _ (t : Control) (i n : ℕ) (ch : Chain) (s : S) (o : Option Control) (x : Sealed m t i n ch s o) where
+    -- while the block, run alone, hasn't ended
+    pub block-open : (cs : List ℕ) (s₁ : S) (v : Control)
+        → Reaches m s₁ (some v) cs s (some (opened (m .cmdAt n) ch))
+        → (s′ : S) (o′ : Option Control)
+        → Reaches m s′ o′ cs s o
+        → Open (x .around) v s₁ s′ o′
+    block-open cs s₁ v a s′ o′ r = go (x .only cs s′ o′ r)
+      where
+        u : Control
+        u = opened (m .cmdAt n) ch
+
+        go : OnlyBlock m (x .around) u cs s s′ o′ → Open (x .around) v s₁ s′ o′
+        go (still-inside y) =
+            let same : (s′ ≡ s₁) × (some (y .inner) ≡ some v) =
+            reach-same m cs s (some u) s′ s₁ (some (y .inner)) (some v) (y .alone) a in
+            let is : y .inner ≡ v = Option·some-injective (y .inner) v (same .1) in
+            record {
+              store = same .0;
+              stands = y .stands ∙ ap (λ w. some (plug (x .around) (entered w))) is;
+              others-wait = subst (λ w. movable (plug (x .around) (entered w)) ≡ movable w) is (y .others-wait);
+            }
+        go (was-left y) =
+            absurd
+            (
+            after-end (y .first) (y .later) s (y .store) s₁ (some u) v (y .alone)
+            (subst (λ l. Reaches m s₁ (some v) l s (some u)) (y .is) a)
+            )
+
+    -- at once: the block's inside, opened, stands entered where the command that moved stood
+    pub block-entered : o ≡ some (plug (x .around) (entered (opened (m .cmdAt n) ch)))
+    block-entered = block-open [] s (opened (m .cmdAt n) ch) stays s o stays .stands
+
+    -- a command that isn't the block's own isn't picked by any choice
+    pub no-other-moves : (cs : List ℕ) (s₁ : S) (v : Control)
+        → Reaches m s₁ (some v) cs s (some (opened (m .cmdAt n) ch))
+        → (s′ : S) (t′ : Control)
+        → Reaches m s′ (some t′) cs s o
+        → (w : Move)
+        → ((j : ℕ) → getElem? (movable v) j ≡ some w → ⊥)
+        → (k : ℕ)
+        → getElem? (movable t′) k ≡ some w
+        → ⊥
+    no-other-moves cs s₁ v a s′ t′ r w f k e =
+        let y : Open (x .around) v s₁ s′ (some t′) = block-open cs s₁ v a s′ (some t′) r in
+        let is : t′ ≡ plug (x .around) (entered v) = Option·some-injective t′ (plug (x .around) (entered v)) (y .stands) in
+        f k (ap (λ l. getElem? l k) (sym (ap movable is ∙ y .others-wait)) ∙ e)
+
+    -- since the choices ds, with which the block alone hasn't ended
+    moves-on : (cs : List ℕ) (s₁ : S) (p : Option Control) (s₀ : S) (q : Option Control)
+        → (a : Reaches m s₁ p cs s₀ q)
+        → (v : Control)
+        → q ≡ some v
+        → (ds : List ℕ)
+        → Reaches m s₀ (some v) ds s (some (opened (m .cmdAt n) ch))
+        → (s₂ : S) (o₂ : Option Control)
+        → Reaches m s₂ o₂ ds s o
+        → (s′ : S) (o′ : Option Control) (r : Reaches m s′ o′ cs s₂ o₂)
+        → moved r ≡ moved a
+    unfolding moved
+    moves-on _ s₁ p _ _ stays v e ds b s₂ o₂ z _ _ stays = refl
+    moves-on _ s₁ p _ _ (goes {i = j} {cs = cs} {s = s₀} {t = w} {s₁ = s₃} {o = q} f a) v e ds b _ _ z s′ o′ (goes {s = s₂} {t = t₂} {s₁ = s₄} {o = o₄} g r) =
+        let y : Open (x .around) v s₀ s₂ (some t₂) = block-open ds s₀ v b s₂ (some t₂) z in
+        let is : t₂ ≡ plug (x .around) (entered v) = Option·some-injective t₂ (plug (x .around) (entered v)) (y .stands) in
+        let k : w ≡ v = Option·some-injective w v e in
+        let first : movable t₂ ≡ movable w = ap movable is ∙ y .others-wait ∙ ap movable (sym k) in
+        let rest : moved r ≡ moved a =
+        go q refl k (λ v₂ h ds₂ b₂ z₂. moves-on cs s₁ p s₃ q a v₂ h ds₂ b₂ s₄ o₄ z₂ s′ o′ r) in
+        ap (λ l. getElem? l j ∷ moved r) first ∙ ap (λ l. getElem? (movable w) j ∷ l) rest
+      where
+        u : Control
+        u = opened (m .cmdAt n) ch
+
+        go : (h : Option Control)
+            → q ≡ h
+            → w ≡ v
+            → ((v₂ : Control) → q ≡ some v₂ → (ds₂ : List ℕ) → Reaches m s₃ (some v₂) ds₂ s (some u) → Reaches m s₄ o₄ ds₂ s o → moved r ≡ moved a)
+            → moved r ≡ moved a
+        go none h k rec = ended-moves cs s₃ s₁ q p a h s₄ s′ o₄ o′ r
+        go (some v₂) h k rec =
+            let step₂ : step m s₀ v j ≡ goesTo s₃ (some v₂) = ap (λ c. step m s₀ c j) (sym k) ∙ f ∙ ap (goesTo s₃) h in
+            rec v₂ h (ds ++ (j ∷ []))
+            (reach-on m s₃ (some v₂) (j ∷ []) s₀ (some v) ds s (some u) (goes step₂ stays) b)
+            (reach-on m s₄ o₄ (j ∷ []) s₂ (some t₂) ds s o (goes g stays) z)
+
+    -- up to the step that leaves the block, the commands that move are those that the block alone moves
+    pub block-moves : (cs : List ℕ) (s₁ : S) (p : Option Control)
+        → (a : Reaches m s₁ p cs s (some (opened (m .cmdAt n) ch)))
+        → (s′ : S) (o′ : Option Control) (r : Reaches m s′ o′ cs s o)
+        → moved r ≡ moved a
+    block-moves cs s₁ p a s′ o′ r =
+        moves-on cs s₁ p s (some (opened (m .cmdAt n) ch)) a (opened (m .cmdAt n) ch) refl [] stays s o stays s′ o′ r
+
+    -- when it has ended, with the first of the choices: the others go on from what stood around it, filled with nothing
+    pub block-left : (first later : List ℕ) (s₁ : S)
+        → Reaches m s₁ none first s (some (opened (m .cmdAt n) ch))
+        → (s′ : S) (o′ : Option Control)
+        → Reaches m s′ o′ (first ++ later) s o
+        → Reaches m s′ o′ later s₁ (fill (m .cmdAt) (x .around) none)
+    block-left first later s₁ a s′ o′ r = go (x .only (first ++ later) s′ o′ r)
+      where
+        u : Control
+        u = opened (m .cmdAt n) ch
+
+        go : OnlyBlock m (x .around) u (first ++ later) s s′ o′ → Reaches m s′ o′ later s₁ (fill (m .cmdAt) (x .around) none)
+        go (still-inside y) = absurd (after-end first later s s₁ s′ (some u) (y .inner) a (y .alone))
+        go (was-left y) =
+            let same : (y .store ≡ s₁) × (y .later ≡ later) =
+            ends-once (y .first) first (y .later) later s (y .store) s₁ (some u) (y .alone) a (sym (y .is)) in
+            subst (λ l. Reaches m s′ o′ l s₁ (fill (m .cmdAt) (x .around) none)) (same .1)
+            (
+            subst (λ z. Reaches m s′ o′ (y .later) z (fill (m .cmdAt) (x .around) none)) (same .0)
+            (subst (λ p. Reaches m s′ o′ (y .later) (y .store) p) (y .closed) (y .on))
+            )
+
+-- In this language the command that stood at the place is the atom, in the block's own chain.
+pub atom-stood : (sc : Script) (t : Control) (i n : ℕ) (ch : Chain) (s : Store) (o : Option Control)
+    → (a : AtomMoves sc t i n ch)
+    → (x : Sealed (miniOO sc) t i n ch s o)
+    → t ≡ plug (x .around) (command (a .node) ch)
+atom-stood sc t i n ch s o a x =
+    let e : some (move (x .node) (x .chain)) ≡ some (move (a .node) ch) = sym (x .picks) ∙ a .picks in
+    x .stood ∙ ap (plug (x .around)) (cc)

@@ -1,0 +1,56 @@
+-- "Frames and objects are numbered as they are made and not given back" (document 01, "State"), over a run: whatever choices
+-- are made, a frame that is there stays there under its number, with its name and its outer frames, and there are no fewer
+-- frames and objects than before; a new one has the number of those made before it. Assumes nothing.
+use Prim.Native.Nat.{ℕ}
+use mathlib.Core.Path.{_≡_, subst, sym, _∙_}
+use mathlib.Core.Option.{Option, some}
+use mathlib.Core.List.{List}
+use native.Mathlib.Omega.{arith}
+use lib.ListN.{length, getElem?, replicate}
+use Rattle.laws.specs.Lists.{entry-new}
+use Rattle.rules.specs.declared.Frame.{Frame}
+use Rattle.rules.specs.declared.Value.the-variants.{Null}
+use Rattle.rules.specs.State.{Store, pushFrame, pushObject}
+use Rattle.rules.specs.Script.{Script}
+use Rattle.rules.specs.Control.{Control}
+use Rattle.rules.specs.Step.{miniOO}
+use Rattle.safety.specs.Reaches.{Reaches, stays, goes}
+use Rattle.safety.proofs.Later.{Kept, kept-all, Later, later}
+use Rattle.safety.proofs.ReachesStep.{goes-only}
+
+-- ---- later and later
+
+kept-on : (fs gs hs : List Frame) → Kept fs gs → Kept gs hs → Kept fs hs
+kept-on fs gs hs p q =
+    record {
+      links = λ k f e.
+          let x = p .links k f e in
+          let y = q .links k (x .frame) (x .is) in
+          record { frame = y .frame; is = y .is; name = y .name ∙ x .name; outer = y .outer ∙ x .outer };
+      frames = omega (arith, p .frames, q .frames);
+    }
+
+later-on : (s r u : Store) → Later s r → Later r u → Later s u
+later-on s r u p q =
+    record { kept = kept-on (s .frames) (r .frames) (u .frames) (p .kept) (q .kept); objects = omega (arith, p .objects, q .objects) }
+
+-- ---- over a run
+
+pub not-given-back : (sc : Script) (s′ : Store) (o′ : Option Control) (cs : List ℕ) (s : Store) (o : Option Control)
+    → Reaches (miniOO sc) s′ o′ cs s o → Later s s′
+unfolding miniOO
+not-given-back sc s′ o′ _ _ _ stays = record { kept = kept-all (s′ .frames); objects = omega arith }
+not-given-back sc s′ o′ _ _ _ (goes {i = i} {cs = cs} {s = s} {t = t} {s₁ = s₁} {o = o} e r) =
+    let g = goes-only (miniOO sc) s t i s₁ o e in
+    let one : Later s s₁ = subst (Later s) (sym (g .store)) (later sc s (g .effect)) in
+    later-on s s₁ s′ one (not-given-back sc s′ o′ cs s₁ o r)
+
+-- ---- numbered as they are made
+
+pub frame-numbered : (s : Store) (f : Frame) → getElem? (pushFrame f s .frames) (length (s .frames)) ≡ some f
+unfolding pushFrame
+frame-numbered s f = entry-new (s .frames) f
+
+pub object-numbered : (F : ℕ) (s : Store) → getElem? (pushObject F s .objects) (length (s .objects)) ≡ some (replicate F Null)
+unfolding pushObject
+object-numbered F s = entry-new (s .objects) (replicate F Null)
