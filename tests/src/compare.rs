@@ -19,7 +19,7 @@ fn pattern(case: &Case, length: usize) -> impl Iterator<Item = u64> + '_ {
     (0..length as u64).map(|place| case.pattern.rotate_left(place as u32 % 64) ^ place)
 }
 
-/// The outcome of a trace, or of a run, which must leave the rows alone.
+/// The outcome of a trace, or of a run, which is lent no rows.
 fn outcome(subject: &dyn Subject, case: &Case, with_rows: bool) -> Outcome {
     let mut workspace: Vec<u64> = pattern(case, case.words).collect();
     let mut rows: Vec<u32> = pattern(case, case.rows).map(|word| word as u32).collect();

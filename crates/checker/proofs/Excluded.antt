@@ -14,7 +14,7 @@ use Rattle.rules.proofs.Cases.{skipAlone}
 
 -- what `check` of src/lib.rt ensures, of any function
 abbrev pub Meets : (ℕ → List ℕ → Verdict) → Type 0
-Meets f = (words : ℕ) (s : List ℕ) → f words s ≡ check words s
+Meets f = (words : ℕ) (img : List ℕ) → f words img ≡ check words img
 
 pub accepts-one : check size skipAlone ≡ Accepted
 unfolding opens
@@ -28,12 +28,12 @@ differ : (k p : ℕ) → Accepted ≡ Refused k p → ⊥
 differ k p e = let z : _≡_ {A = ℕ} 0 1 = cc in absurd (omega arith)
 
 module _ (f : ℕ → List ℕ → Verdict) (meets : Meets f) where
-  pub not-all-accepted : ((words : ℕ) (s : List ℕ) → f words s ≡ Accepted) → ⊥
+  pub not-all-accepted : ((words : ℕ) (img : List ℕ) → f words img ≡ Accepted) → ⊥
   not-all-accepted all = differ 1 0 (sym (all size []) ∙ meets size [] ∙ refuses-one)
 
-  pub not-all-refused : (k p : ℕ → List ℕ → ℕ) → ((words : ℕ) (s : List ℕ) → f words s ≡ Refused (k words s) (p words s)) → ⊥
+  pub not-all-refused : (k p : ℕ → List ℕ → ℕ) → ((words : ℕ) (img : List ℕ) → f words img ≡ Refused (k words img) (p words img)) → ⊥
   not-all-refused k p all = differ _ _ (sym accepts-one ∙ sym (meets size skipAlone) ∙ all size skipAlone)
 
   -- any other that meets it answers the same
-  pub only-one : (g : ℕ → List ℕ → Verdict) → Meets g → (words : ℕ) (s : List ℕ) → f words s ≡ g words s
-  only-one g also words s = meets words s ∙ sym (also words s)
+  pub only-one : (g : ℕ → List ℕ → Verdict) → Meets g → (words : ℕ) (img : List ℕ) → f words img ≡ g words img
+  only-one g also words img = meets words img ∙ sym (also words img)

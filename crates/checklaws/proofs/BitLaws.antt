@@ -90,14 +90,14 @@ pub shows-none : Shows 0 0 []
 unfolding has
 shows-none = record { low = λ x l. bit-none x; high = λ x l. bit-none x }
 
-module _ {lo hi : ℕ} {Γ : Names} (h : Shows lo hi Γ) where
-  pub seen-low : (x : ℕ) → x < 64 → bit lo x ≡ has x Γ
+module _ {lo hi : ℕ} {visible : Names} (h : Shows lo hi visible) where
+  pub seen-low : (x : ℕ) → x < 64 → bit lo x ≡ has x visible
   seen-low x l = h .low x l
 
-  pub seen-high : (x : ℕ) → 64 ≤ x → x < 128 → bit hi (x - 64) ≡ has x Γ
+  pub seen-high : (x : ℕ) → 64 ≤ x → x < 128 → bit hi (x - 64) ≡ has x visible
   seen-high x l m = let e : 64 + (x - 64) ≡ x = omega arith in h .high (x - 64) (omega arith) ∙ rw e
 
-  pub also-low : (x lo′ : ℕ) → x < 64 → Adds lo x lo′ → Shows lo′ hi (x ∷ Γ)
+  pub also-low : (x lo′ : ℕ) → x < 64 → Adds lo x lo′ → Shows lo′ hi (x ∷ visible)
   unfolding has
   also-low x lo′ l a =
       record {
@@ -105,7 +105,7 @@ module _ {lo hi : ℕ} {Γ : Names} (h : Shows lo hi Γ) where
         high = λ y m. h .high y m ∙ sym (rw (ne-eqb x (64 + y) (λ e. omega arith)));
       }
 
-  pub also-high : (x hi′ : ℕ) → 64 ≤ x → Adds hi (x - 64) hi′ → Shows lo hi′ (x ∷ Γ)
+  pub also-high : (x hi′ : ℕ) → 64 ≤ x → Adds hi (x - 64) hi′ → Shows lo hi′ (x ∷ visible)
   unfolding has
   also-high x hi′ l a =
       record {

@@ -116,16 +116,16 @@ hits-small (some (row m p q r t)) x k =
     let c = hit-small r (x .c) k in
     omega arith
 
-module _ (s : List ℕ) where
-  uses-small : (k m : ℕ) → usesOf s k m ≤ 3 * m
+module _ (img : List ℕ) where
+  uses-small : (k m : ℕ) → usesOf img k m ≤ 3 * m
   unfolding usesOf
   uses-small k zero = omega arith
   uses-small k (suc m) =
       let a = uses-small k m in
-      let b = hits-small (rowOf (nodeAt s m .tag)) (nodeAt s m) k in
+      let b = hits-small (rowOf (nodeAt img m .tag)) (nodeAt img m) k in
       omega arith
 
-  pub counts-most : (n : ℕ) (t : List ℕ) → Counts s n t → n ≤ 2048 → Most 60000 t
+  pub counts-most : (n : ℕ) (t : List ℕ) → Counts img n t → n ≤ 2048 → Most 60000 t
   counts-most n t h l = record { most = go }
     where
       go : (k : ℕ) → getD t k 0 ≤ 60000
@@ -137,17 +137,17 @@ module _ (s : List ℕ) where
                 omega arith
           ]
 
-  pub counts-none : (z : ℕ) → nodesOf s ≤ z → Counts s 0 (replicate z 0)
+  pub counts-none : (z : ℕ) → nodesOf img ≤ z → Counts img 0 (replicate z 0)
   unfolding usesOf
   counts-none z h =
       let e : length (replicate {A = ℕ} z 0) ≡ z = length-replicate {A = ℕ} z 0 in
       record { long = omega arith; counts = λ k l. getD-replicate {A = ℕ} z k 0 0 (omega arith) }
 
   one-more : (n : ℕ) (t t′ : List ℕ)
-      → Counts s n t
+      → Counts img n t
       → length t′ ≡ length t
-      → ((k : ℕ) → k < length t → getD t′ k 0 ≡ getD t k 0 + hits (rowOf (nodeAt s n .tag)) (nodeAt s n) k)
-      → Counts s (n + 1) t′
+      → ((k : ℕ) → k < length t → getD t′ k 0 ≡ getD t k 0 + hits (rowOf (nodeAt img n .tag)) (nodeAt img n) k)
+      → Counts img (n + 1) t′
   unfolding usesOf
   one-more n t t′ h e f =
       let l = h .long in
@@ -159,13 +159,13 @@ module _ (s : List ℕ) where
             rw (add-one n) (omega arith);
       }
 
-  module _ (n : ℕ) (x : Node) (is : x ≡ nodeAt s n) (t : List ℕ) (h : Counts s n t) where
+  module _ (n : ℕ) (x : Node) (is : x ≡ nodeAt img n) (t : List ℕ) (h : Counts img n t) where
     no-hits : (o : Option Row) (k : ℕ) → rolesOf o ≡ none → hits o x k ≡ 0
     unfolding hits rolesOf
     no-hits none k e = refl
     no-hits (some (row m p q r g)) k e = let z : _≡_ {A = ℕ} 0 1 = cc in absurd (omega arith)
 
-    pub no-tag-counts : rolesOf (rowOf (x .tag)) ≡ none → Counts s (n + 1) t
+    pub no-tag-counts : rolesOf (rowOf (x .tag)) ≡ none → Counts img (n + 1) t
     no-tag-counts e =
         one-more n t t h refl
         (λ k l. let z = no-hits (rowOf (x .tag)) k e in rw (← is) (omega arith))
@@ -179,7 +179,7 @@ module _ (s : List ℕ) where
         let c : r′ ≡ r = cc in
         rw (a, b, c)
 
-    pub node-counts : (p q r : Role) (t′ : List ℕ) → rolesOf (rowOf (x .tag)) ≡ some (roles p q r) → TicksAll p q r x t t′ → Counts s (n + 1) t′
+    pub node-counts : (p q r : Role) (t′ : List ℕ) → rolesOf (rowOf (x .tag)) ≡ some (roles p q r) → TicksAll p q r x t t′ → Counts img (n + 1) t′
     node-counts p q r t′ e f =
         one-more n t t′ h (f .long)
         (λ k l. let z = by-role (rowOf (x .tag)) k p q r e in let y = f .adds k l in rw (← is) (omega arith))

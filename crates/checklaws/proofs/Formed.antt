@@ -11,7 +11,8 @@ use Rattle.rules.specs.declared.Verdict.{Verdict}
 use Rattle.rules.specs.declared.Verdict.the-variants.{Accepted, Refused}
 use Rattle.rules.specs.Image.{rowOf, nodesOf, nodeAt, Tree, cmdAt}
 use Rattle.rules.specs.Refusals.{Reason, noSuchTag, unusedWord, wrongOperand, notOnce, orElse, atPlace, lowest, ruleOf, rule}
-use Rattle.rules.proofs.Groups.{reasonNo, broken, In, at-accepted, low-accepted}
+use Rattle.rules.proofs.ReasonTable.{reasonNo, broken, In}
+use Rattle.rules.proofs.Groups.{at-accepted, low-accepted}
 use Rattle.rules.specs.State.{size}
 use Rattle.rules.proofs.GoodFacts.{Sized}
 use Rattle.rules.proofs.Good.{row-fits, use-once, root-kind}
@@ -25,25 +26,25 @@ use Rattle.rules.proofs.TreeKinds.{is-cmd}
 
 -- ---- formed
 
-module _ (s : List ℕ) where
-  passed : (rs : List Reason) (n : ℕ) → rulesSay s rs n ≡ Accepted → (p : ℕ) → p < n → (r : Reason) → In r rs → broken size s r p ≡ false
+module _ (img : List ℕ) where
+  passed : (rs : List Reason) (n : ℕ) → rulesSay img rs n ≡ Accepted → (p : ℕ) → p < n → (r : Reason) → In r rs → broken size img r p ≡ false
   unfolding rulesSay
-  passed rs n e p l r i = at-accepted (broken size s) rs p (low-accepted (broken size s) rs n e p l) r i
+  passed rs n e p l r i = at-accepted (broken size img) rs p (low-accepted (broken size img) rs n e p l) r i
 
-  pub formed : Sized s → rulesSay s nodeRules (nodesOf s) ≡ Accepted → rulesSay s useRules (nodesOf s) ≡ Accepted → Formed s
+  pub formed : Sized img → rulesSay img nodeRules (nodesOf img) ≡ Accepted → rulesSay img useRules (nodesOf img) ≡ Accepted → Formed img
   unfolding ruleOf rule
   formed z e f =
       record {
         sized = z;
         nodes = λ n l.
-            row-fits s n (rowOf (nodeAt s n .tag)) (nodeAt s n)
-            (passed nodeRules (nodesOf s) e n l noSuchTag (inl refl))
-            (passed nodeRules (nodesOf s) e n l unusedWord (inr (inl refl)))
-            (passed nodeRules (nodesOf s) e n l wrongOperand (inr (inr (inl refl))));
-        once = λ n l. use-once s n l (passed useRules (nodesOf s) f n (omega arith) notOnce (inl refl));
+            row-fits img n (rowOf (nodeAt img n .tag)) (nodeAt img n)
+            (passed nodeRules (nodesOf img) e n l noSuchTag (inl refl))
+            (passed nodeRules (nodesOf img) e n l unusedWord (inr (inl refl)))
+            (passed nodeRules (nodesOf img) e n l wrongOperand (inr (inr (inl refl))));
+        once = λ n l. use-once img n l (passed useRules (nodesOf img) f n (omega arith) notOnce (inl refl));
         root =
             let m = z .some-node in
-            root-kind s m (passed useRules (nodesOf s) f (nodesOf s - 1) (omega arith) notOnce (inl refl));
+            root-kind img m (passed useRules (nodesOf img) f (nodesOf img - 1) (omega arith) notOnce (inl refl));
       }
 
 -- ---- downward
@@ -58,19 +59,19 @@ unfolding orElse
 or-assoc Accepted v w = refl
 or-assoc (Refused k p) v w = refl
 
-module _ (s : List ℕ) where
-  pub down-start : (n : ℕ) → n ≡ nodesOf s → orElse (rulesSay s nameRules n) Accepted ≡ rulesSay s nameRules (nodesOf s)
-  down-start n e = or-accepted (rulesSay s nameRules n) ∙ rw e
+module _ (img : List ℕ) where
+  pub down-start : (n : ℕ) → n ≡ nodesOf img → orElse (rulesSay img nameRules n) Accepted ≡ rulesSay img nameRules (nodesOf img)
+  down-start n e = or-accepted (rulesSay img nameRules n) ∙ rw e
 
-  one-down : (n : ℕ) (v : Verdict) → orElse (rulesSay s nameRules (suc n)) v ≡ orElse (rulesSay s nameRules n) (orElse (placeSays s nameRules n) v)
+  one-down : (n : ℕ) (v : Verdict) → orElse (rulesSay img nameRules (suc n)) v ≡ orElse (rulesSay img nameRules n) (orElse (placeSays img nameRules n) v)
   unfolding rulesSay placeSays lowest
-  one-down n v = or-assoc (lowest (broken size s) nameRules n) (atPlace (broken size s) nameRules n) v
+  one-down n v = or-assoc (lowest (broken size img) nameRules n) (atPlace (broken size img) nameRules n) v
 
-  stray-is : (n : ℕ) → Formed s → n < nodesOf s → has n (straysCmd [] (cmdAt (nodeAt s) (rootOf s))) ≡ strayAt s n
+  stray-is : (n : ℕ) → Formed img → n < nodesOf img → has n (straysCmd [] (cmdAt (nodeAt img) (rootOf img))) ≡ strayAt img n
   unfolding rootOf straysTree
-  stray-is n g l = ap (λ (t : Tree). straysTree [] t n) (sym (is-cmd (nodeAt s) (nodesOf s - 1) (g .root))) ∙ strays-is s g n l
+  stray-is n g l = ap (λ (t : Tree). straysTree [] t n) (sym (is-cmd (nodeAt img) (nodesOf img - 1) (g .root))) ∙ strays-is img g n l
 
-  place : (n : ℕ) (b : Bool) (v : Verdict) → Formed s → n < nodesOf s → b ≡ strayAt s n → orElse (placeSays s nameRules n) v ≡ cond b (Refused 9 n) v
+  place : (n : ℕ) (b : Bool) (v : Verdict) → Formed img → n < nodesOf img → b ≡ strayAt img n → orElse (placeSays img nameRules n) v ≡ cond b (Refused 9 n) v
   unfolding placeSays atPlace orElse ruleOf rule
   place n b v g l e = rw (stray-is n g l, ← e) (go b)
     where
@@ -78,11 +79,11 @@ module _ (s : List ℕ) where
       go true = refl
       go false = refl
 
-  pub down : (n m : ℕ) (b : Bool) (v : Verdict) → Formed s → n < nodesOf s → n + 1 ≡ m → b ≡ strayAt s n → orElse (rulesSay s nameRules m) v ≡ rulesSay s nameRules (nodesOf s) → orElse (rulesSay s nameRules n) (cond b (Refused 9 n) v) ≡ rulesSay s nameRules (nodesOf s)
+  pub down : (n m : ℕ) (b : Bool) (v : Verdict) → Formed img → n < nodesOf img → n + 1 ≡ m → b ≡ strayAt img n → orElse (rulesSay img nameRules m) v ≡ rulesSay img nameRules (nodesOf img) → orElse (rulesSay img nameRules n) (cond b (Refused 9 n) v) ≡ rulesSay img nameRules (nodesOf img)
   down n m b v g l d e h =
       let f : suc n ≡ m = omega arith in
-      ap (orElse (rulesSay s nameRules n)) (sym (place n b v g l e)) ∙ sym (one-down n v) ∙ rw f h
+      ap (orElse (rulesSay img nameRules n)) (sym (place n b v g l e)) ∙ sym (one-down n v) ∙ rw f h
 
-  pub down-end : (n : ℕ) (v : Verdict) → n ≡ 0 → orElse (rulesSay s nameRules n) v ≡ rulesSay s nameRules (nodesOf s) → v ≡ rulesSay s nameRules (nodesOf s)
+  pub down-end : (n : ℕ) (v : Verdict) → n ≡ 0 → orElse (rulesSay img nameRules n) v ≡ rulesSay img nameRules (nodesOf img) → v ≡ rulesSay img nameRules (nodesOf img)
   unfolding rulesSay lowest orElse
   down-end n v z h = rw z at h

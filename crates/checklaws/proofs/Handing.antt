@@ -81,41 +81,41 @@ all-at p q r x v t k l =
 
 -- ---- the start
 
-pub shown-none : (s : List ℕ) (z : ℕ) → nodesOf s ≤ z → Shown s (nodesOf s) (replicate z 0) (replicate z 0)
-shown-none s z h =
+pub shown-none : (img : List ℕ) (z : ℕ) → nodesOf img ≤ z → Shown img (nodesOf img) (replicate z 0) (replicate z 0)
+shown-none img z h =
     let e : length (replicate {A = ℕ} z 0) ≡ z = length-replicate {A = ℕ} z 0 in
     record {
       long-lo = omega arith;
       long-hi = refl;
-      shows = λ k l. rw (handed-none s k, getD-replicate {A = ℕ} z k 0 0 (omega arith)) shows-none;
+      shows = λ k l. rw (handed-none img k, getD-replicate {A = ℕ} z k 0 0 (omega arith)) shows-none;
     }
 
-pub shown-at : (s : List ℕ) (n m : ℕ) (los his : List ℕ) → n ≡ m → Shown s n los his → Shown s m los his
-shown-at s n m los his e h = rw (← e) h
+pub shown-at : (img : List ℕ) (n m : ℕ) (los his : List ℕ) → n ≡ m → Shown img n los his → Shown img m los his
+shown-at img n m los his e h = rw (← e) h
 
 -- ---- a visit
 
-module _ (s : List ℕ) (n : ℕ) (l : n < nodesOf s) (x : Node) (is : x ≡ nodeAt s n) where
-  step : (k : ℕ) → handed s n k ≡ cond (ltb 0 (hits (rowOf (x .tag)) x k)) (growRow (handed s (n + 1) n) (rowOf (x .tag)) x) (handed s (n + 1) k)
+module _ (img : List ℕ) (n : ℕ) (l : n < nodesOf img) (x : Node) (is : x ≡ nodeAt img n) where
+  step : (k : ℕ) → handed img n k ≡ cond (ltb 0 (hits (rowOf (x .tag)) x k)) (growRow (handed img (n + 1) n) (rowOf (x .tag)) x) (handed img (n + 1) k)
   unfolding hitsAt
-  step k = handed-step s n k l ∙ rw (← is)
+  step k = handed-step img n k l ∙ rw (← is)
 
   no-hits : (o : Option Row) (k : ℕ) → rolesOf o ≡ none → hits o x k ≡ 0
   unfolding hits rolesOf
   no-hits none k e = refl
   no-hits (some (row m p q r g)) k e = let z : _≡_ {A = ℕ} 0 1 = cc in absurd (omega arith)
 
-  no-stray : (Γ : Names) (o : Option Row) → rolesOf o ≡ none → false ≡ strayRow Γ o x
+  no-stray : (visible : Names) (o : Option Row) → rolesOf o ≡ none → false ≡ strayRow visible o x
   unfolding strayRow rolesOf
-  no-stray Γ none e = refl
-  no-stray Γ (some (row m p q r g)) e = let z : _≡_ {A = ℕ} 0 1 = cc in absurd (omega arith)
+  no-stray visible none e = refl
+  no-stray visible (some (row m p q r g)) e = let z : _≡_ {A = ℕ} 0 1 = cc in absurd (omega arith)
 
   module _ (e : rolesOf (rowOf (x .tag)) ≡ none) where
-    pub stray-none : false ≡ strayAt s n
+    pub stray-none : false ≡ strayAt img n
     unfolding strayAt
-    stray-none = rw (← is) (no-stray (handed s (n + 1) n) (rowOf (x .tag)) e)
+    stray-none = rw (← is) (no-stray (handed img (n + 1) n) (rowOf (x .tag)) e)
 
-    pub visited-none : (los his : List ℕ) → Shown s (n + 1) los his → Shown s n los his
+    pub visited-none : (los his : List ℕ) → Shown img (n + 1) los his → Shown img n los his
     visited-none los his h =
         record {
           long-lo = h .long-lo;
@@ -133,28 +133,28 @@ module _ (s : List ℕ) (n : ℕ) (l : n < nodesOf s) (x : Node) (is : x ≡ nod
         let c : r′ ≡ r = cc in
         rw (a, b, c)
 
-    grow-role : (Γ : Names) (o : Option Row) → rolesOf o ≡ some (roles p q r) → growRow Γ o x ≡ growWord Γ p (x .a)
+    grow-role : (visible : Names) (o : Option Row) → rolesOf o ≡ some (roles p q r) → growRow visible o x ≡ growWord visible p (x .a)
     unfolding growRow rolesOf
-    grow-role Γ none d = let z : _≡_ {A = ℕ} 0 1 = cc in absurd (omega arith)
-    grow-role Γ (some (row m p′ q′ r′ g)) d = let a : p′ ≡ p = cc in rw a
+    grow-role visible none d = let z : _≡_ {A = ℕ} 0 1 = cc in absurd (omega arith)
+    grow-role visible (some (row m p′ q′ r′ g)) d = let a : p′ ≡ p = cc in rw a
 
-    stray-role : (Γ : Names) (o : Option Row) → rolesOf o ≡ some (roles p q r) → strayRow Γ o x ≡ strayWord Γ p (x .a)
+    stray-role : (visible : Names) (o : Option Row) → rolesOf o ≡ some (roles p q r) → strayRow visible o x ≡ strayWord visible p (x .a)
     unfolding strayRow rolesOf
-    stray-role Γ none d = let z : _≡_ {A = ℕ} 0 1 = cc in absurd (omega arith)
-    stray-role Γ (some (row m p′ q′ r′ g)) d = let a : p′ ≡ p = cc in rw a
+    stray-role visible none d = let z : _≡_ {A = ℕ} 0 1 = cc in absurd (omega arith)
+    stray-role visible (some (row m p′ q′ r′ g)) d = let a : p′ ≡ p = cc in rw a
 
-    fit-role : (o : Option Row) → rolesOf o ≡ some (roles p q r) → RowFits s n o x → Fit s n p (x .a)
+    fit-role : (o : Option Row) → rolesOf o ≡ some (roles p q r) → RowFits img n o x → Fit img n p (x .a)
     unfolding rolesOf
     fit-role none d f = absurd f
     fit-role (some (row m p′ q′ r′ g)) d f =
         let a : p′ ≡ p = cc in
-        subst (λ (u : Role). Fit s n u (x .a)) a (f .0)
+        subst (λ (u : Role). Fit img n u (x .a)) a (f .0)
 
-    pub name-fits : Formed s → NameFits p (x .a)
+    pub name-fits : Formed img → NameFits p (x .a)
     name-fits g =
-        go p (fit-role (rowOf (x .tag)) e (subst (λ (y : Node). RowFits s n (rowOf (y .tag)) y) (sym is) (g .nodes n l)))
+        go p (fit-role (rowOf (x .tag)) e (subst (λ (y : Node). RowFits img n (rowOf (y .tag)) y) (sym is) (g .nodes n l)))
       where
-        go : (u : Role) → Fit s n u (x .a) → NameFits u (x .a)
+        go : (u : Role) → Fit img n u (x .a) → NameFits u (x .a)
         go unused f = tt
         go index f = tt
         go half f = tt
@@ -162,20 +162,20 @@ module _ (s : List ℕ) (n : ℕ) (l : n < nodesOf s) (x : Node) (is : x ≡ nod
         go binds f = let m = g .sized .few-names in omega arith
         go (child k) f = tt
 
-    module _ (los his los′ his′ : List ℕ) (bad : Bool) (h : Shown s (n + 1) los his) (m : n < length los) (v : Visited p q r x n los his los′ his′ bad) where
-      pub stray-row : bad ≡ strayAt s n
+    module _ (los his los′ his′ : List ℕ) (bad : Bool) (h : Shown img (n + 1) los his) (m : n < length los) (v : Visited p q r x n los his los′ his′ bad) where
+      pub stray-row : bad ≡ strayAt img n
       unfolding strayAt
       stray-row =
-          v .strays (handed s (n + 1) n) (h .shows n m)
-          ∙ sym (stray-role (handed s (n + 1) n) (rowOf (x .tag)) e)
+          v .strays (handed img (n + 1) n) (h .shows n m)
+          ∙ sym (stray-role (handed img (n + 1) n) (rowOf (x .tag)) e)
           ∙ rw (← is)
 
-      either : (b : Bool) (k : ℕ) → k < length los → Shows (cond b (v .lo) (getD los k 0)) (cond b (v .hi) (getD his k 0)) (cond b (growRow (handed s (n + 1) n) (rowOf (x .tag)) x) (handed s (n + 1) k))
+      either : (b : Bool) (k : ℕ) → k < length los → Shows (cond b (v .lo) (getD los k 0)) (cond b (v .hi) (getD his k 0)) (cond b (growRow (handed img (n + 1) n) (rowOf (x .tag)) x) (handed img (n + 1) k))
       either true k i =
-          rw (grow-role (handed s (n + 1) n) (rowOf (x .tag)) e) (v .grows (handed s (n + 1) n) (h .shows n m))
+          rw (grow-role (handed img (n + 1) n) (rowOf (x .tag)) e) (v .grows (handed img (n + 1) n) (h .shows n m))
       either false k i = h .shows k i
 
-      pub visited-row : Shown s n los′ his′
+      pub visited-row : Shown img n los′ his′
       visited-row =
           let a = h .long-lo in
           let b = h .long-hi in

@@ -23,8 +23,8 @@ use Rattle.checklaws.proofs.Parents.{hitsAt, only, parent, hit-is, one-
 
 -- ---- the trees of the children
 
-module _ (s : List ℕ) (Γ : Names) (t : ℕ) where
-  below-none : (p : Role) (w : ℕ) → (0 < hit p w w → straysTree Γ (treeAt (nodeAt s) w) t ≡ false) → strayBelow s Γ p w t ≡ false
+module _ (img : List ℕ) (visible : Names) (t : ℕ) where
+  below-none : (p : Role) (w : ℕ) → (0 < hit p w w → straysTree visible (treeAt (nodeAt img) w) t ≡ false) → strayBelow img visible p w t ≡ false
   unfolding strayBelow hit
   below-none unused w f = refl
   below-none index w f = refl
@@ -33,14 +33,14 @@ module _ (s : List ℕ) (Γ : Names) (t : ℕ) where
   below-none binds w f = refl
   below-none (child k) w f = f (rw (eq-eqb w w refl) (omega arith))
 
-  kids-none : (o : Option Row) (x : Node) → ((w : ℕ) → 0 < hits o x w → straysTree Γ (treeAt (nodeAt s) w) t ≡ false) → strayKids s Γ o x t ≡ false
+  kids-none : (o : Option Row) (x : Node) → ((w : ℕ) → 0 < hits o x w → straysTree visible (treeAt (nodeAt img) w) t ≡ false) → strayKids img visible o x t ≡ false
   unfolding strayKids hits
   kids-none none x f = refl
   kids-none (some (row m p q r g)) x f =
       rw
       (below-none p (x .a) (λ h. f (x .a) (omega arith)), below-none q (x .b) (λ h. f (x .b) (omega arith)), below-none r (x .c) (λ h. f (x .c) (omega arith)))
 
-  below-some : (p : Role) (v w : ℕ) → 0 < hit p v w → straysTree Γ (treeAt (nodeAt s) w) t ≡ true → strayBelow s Γ p v t ≡ true
+  below-some : (p : Role) (v w : ℕ) → 0 < hit p v w → straysTree visible (treeAt (nodeAt img) w) t ≡ true → strayBelow img visible p v t ≡ true
   unfolding strayBelow hit
   below-some unused v w h e = absurd (omega arith)
   below-some index v w h e = absurd (omega arith)
@@ -61,13 +61,13 @@ module _ (s : List ℕ) (Γ : Names) (t : ℕ) where
   or-right false true c e = refl
   or-right false false c e = e
 
-  kids-some : (o : Option Row) (x : Node) (w : ℕ) → 0 < hits o x w → straysTree Γ (treeAt (nodeAt s) w) t ≡ true → strayKids s Γ o x t ≡ true
+  kids-some : (o : Option Row) (x : Node) (w : ℕ) → 0 < hits o x w → straysTree visible (treeAt (nodeAt img) w) t ≡ true → strayKids img visible o x t ≡ true
   unfolding strayKids hits
   kids-some none x w h e = absurd (omega arith)
   kids-some (some (row m p q r g)) x w h e =
-      let a = strayBelow s Γ p (x .a) t in
-      let b = strayBelow s Γ q (x .b) t in
-      let c = strayBelow s Γ r (x .c) t in
+      let a = strayBelow img visible p (x .a) t in
+      let b = strayBelow img visible q (x .b) t in
+      let c = strayBelow img visible r (x .c) t in
       one-of (hit p (x .a) w) (hit q (x .b) w) (hit r (x .c) w) h
       (λ i. or-left a b c (below-some p (x .a) w i e))
       (λ i. or-mid a b c (below-some q (x .b) w i e))
@@ -75,19 +75,19 @@ module _ (s : List ℕ) (Γ : Names) (t : ℕ) where
 
 -- ---- what is handed
 
-module _ (s : List ℕ) where
-  pub handed-none : (k : ℕ) → handed s (nodesOf s) k ≡ []
+module _ (img : List ℕ) where
+  pub handed-none : (k : ℕ) → handed img (nodesOf img) k ≡ []
   unfolding handed handedBy
-  handed-none k = let e : nodesOf s - nodesOf s ≡ 0 = omega arith in rw e
+  handed-none k = let e : nodesOf img - nodesOf img ≡ 0 = omega arith in rw e
 
-  pub handed-step : (n k : ℕ) → n < nodesOf s → handed s n k ≡ cond (ltb 0 (hitsAt s k n)) (growRow (handed s (n + 1) n) (rowOf (nodeAt s n .tag)) (nodeAt s n)) (handed s (n + 1) k)
+  pub handed-step : (n k : ℕ) → n < nodesOf img → handed img n k ≡ cond (ltb 0 (hitsAt img k n)) (growRow (handed img (n + 1) n) (rowOf (nodeAt img n .tag)) (nodeAt img n)) (handed img (n + 1) k)
   unfolding handed handedBy handOn hitsAt
   handed-step n k l =
-      let e : nodesOf s - n ≡ suc (nodesOf s - (n + 1)) = omega arith in
-      let d : nodesOf s - suc (nodesOf s - (n + 1)) ≡ n = omega arith in
+      let e : nodesOf img - n ≡ suc (nodesOf img - (n + 1)) = omega arith in
+      let d : nodesOf img - suc (nodesOf img - (n + 1)) ≡ n = omega arith in
       rw (e, handedBy, d)
 
-  keeps : (d n k : ℕ) → d + n ≤ nodesOf s → ((i : ℕ) → n ≤ i → i < d + n → hitsAt s k i ≡ 0) → handed s n k ≡ handed s (d + n) k
+  keeps : (d n k : ℕ) → d + n ≤ nodesOf img → ((i : ℕ) → n ≤ i → i < d + n → hitsAt img k i ≡ 0) → handed img n k ≡ handed img (d + n) k
   keeps zero n k l f = let e : 0 + n ≡ n = omega arith in rw e
   keeps (suc d) n k l f =
       let z = f n (omega arith) (omega arith) in
@@ -97,42 +97,42 @@ module _ (s : List ℕ) where
 
 -- ---- a formed script
 
-module _ (s : List ℕ) (g : Formed s) where
+module _ (img : List ℕ) (g : Formed img) where
   names : ℕ → Names
-  names n = handed s (n + 1) n
+  names n = handed img (n + 1) n
 
-  child-names : (n c : ℕ) → n < nodesOf s → 0 < hitsAt s c n → names c ≡ growRow (names n) (rowOf (nodeAt s n .tag)) (nodeAt s n)
+  child-names : (n c : ℕ) → n < nodesOf img → 0 < hitsAt img c n → names c ≡ growRow (names n) (rowOf (nodeAt img n .tag)) (nodeAt img n)
   unfolding names
   child-names n c l h =
-      let b = child-below s n c (g .nodes n l) h in
+      let b = child-below img n c (g .nodes n l) h in
       let once = g .once c (omega arith) in
       let e : (n - (c + 1)) + (c + 1) ≡ n = omega arith in
       let kept =
-      keeps s (n - (c + 1)) (c + 1) c (omega arith)
-      (λ i j k. only s c (nodesOf s) n i once l h (omega arith) (λ d. omega arith)) in
-      (rw e at kept) ∙ handed-step s n c l ∙ rw (lt-ltb 0 (hitsAt s c n) h)
+      keeps img (n - (c + 1)) (c + 1) c (omega arith)
+      (λ i j k. only img c (nodesOf img) n i once l h (omega arith) (λ d. omega arith)) in
+      (rw e at kept) ∙ handed-step img n c l ∙ rw (lt-ltb 0 (hitsAt img c n) h)
 
-  root-names : (n : ℕ) → n + 1 ≡ nodesOf s → names n ≡ []
+  root-names : (n : ℕ) → n + 1 ≡ nodesOf img → names n ≡ []
   unfolding names
-  root-names n e = rw e (handed-none s n)
+  root-names n e = rw e (handed-none img n)
 
-  and-none : (n t : ℕ) → strayAt s t ≡ false → (eqb n t && strayRow (names n) (rowOf (nodeAt s n .tag)) (nodeAt s n)) ≡ false
+  and-none : (n t : ℕ) → strayAt img t ≡ false → (eqb n t && strayRow (names n) (rowOf (nodeAt img n .tag)) (nodeAt img n)) ≡ false
   unfolding strayAt names
   and-none n t e = go (eqb n t) refl
     where
-      go : (b : Bool) → eqb n t ≡ b → (b && strayRow (handed s (n + 1) n) (rowOf (nodeAt s n .tag)) (nodeAt s n)) ≡ false
+      go : (b : Bool) → eqb n t ≡ b → (b && strayRow (handed img (n + 1) n) (rowOf (nodeAt img n .tag)) (nodeAt img n)) ≡ false
       go true h = let d = eqb-true n t h in rw d e
       go false h = refl
 
   -- a node whose children's trees don't stray at t, and which doesn't itself
-  none-here : (t n : ℕ) → strayAt s t ≡ false → n < nodesOf s → ((w : ℕ) → w < n → straysTree (names w) (treeAt (nodeAt s) w) t ≡ false) → straysTree (names n) (treeAt (nodeAt s) n) t ≡ false
+  none-here : (t n : ℕ) → strayAt img t ≡ false → n < nodesOf img → ((w : ℕ) → w < n → straysTree (names w) (treeAt (nodeAt img) w) t ≡ false) → straysTree (names n) (treeAt (nodeAt img) n) t ≡ false
   unfolding rowStrays hitsAt
   none-here t n e l f =
-      strays-row s (names n) n t (g .nodes n l)
+      strays-row img (names n) n t (g .nodes n l)
       ∙ rw
-      (and-none n t e, kids-none s (growRow (names n) (rowOf (nodeAt s n .tag)) (nodeAt s n)) t (rowOf (nodeAt s n .tag)) (nodeAt s n) (λ w h. rw (← child-names n w l h) (f w (child-below s n w (g .nodes n l) h))))
+      (and-none n t e, kids-none img (growRow (names n) (rowOf (nodeAt img n .tag)) (nodeAt img n)) t (rowOf (nodeAt img n .tag)) (nodeAt img n) (λ w h. rw (← child-names n w l h) (f w (child-below img n w (g .nodes n l) h))))
 
-  never-strays : (t : ℕ) → strayAt s t ≡ false → (b n : ℕ) → n < b → n < nodesOf s → straysTree (names n) (treeAt (nodeAt s) n) t ≡ false
+  never-strays : (t : ℕ) → strayAt img t ≡ false → (b n : ℕ) → n < b → n < nodesOf img → straysTree (names n) (treeAt (nodeAt img) n) t ≡ false
   never-strays t e zero n l h = absurd (omega arith)
   never-strays t e (suc b) n l h =
       none-here t n e h (λ w i. never-strays t e b w (omega arith) (omega arith))
@@ -142,44 +142,44 @@ module _ (s : List ℕ) (g : Formed s) where
   or-last false b e = e
 
   -- a node one of whose children's trees strays at t
-  some-here : (t n c : ℕ) → n < nodesOf s → 0 < hitsAt s c n → straysTree (names c) (treeAt (nodeAt s) c) t ≡ true → straysTree (names n) (treeAt (nodeAt s) n) t ≡ true
+  some-here : (t n c : ℕ) → n < nodesOf img → 0 < hitsAt img c n → straysTree (names c) (treeAt (nodeAt img) c) t ≡ true → straysTree (names n) (treeAt (nodeAt img) n) t ≡ true
   unfolding rowStrays hitsAt
   some-here t n c l h e =
-      let f : straysTree (growRow (names n) (rowOf (nodeAt s n .tag)) (nodeAt s n)) (treeAt (nodeAt s) c) t ≡ true = rw (child-names n c l h) at e in
-      strays-row s (names n) n t (g .nodes n l)
-      ∙ or-last (eqb n t && strayRow (names n) (rowOf (nodeAt s n .tag)) (nodeAt s n)) _ (kids-some s (growRow (names n) (rowOf (nodeAt s n .tag)) (nodeAt s n)) t (rowOf (nodeAt s n .tag)) (nodeAt s n) c h f)
+      let f : straysTree (growRow (names n) (rowOf (nodeAt img n .tag)) (nodeAt img n)) (treeAt (nodeAt img) c) t ≡ true = rw (child-names n c l h) at e in
+      strays-row img (names n) n t (g .nodes n l)
+      ∙ or-last (eqb n t && strayRow (names n) (rowOf (nodeAt img n .tag)) (nodeAt img n)) _ (kids-some img (growRow (names n) (rowOf (nodeAt img n .tag)) (nodeAt img n)) t (rowOf (nodeAt img n .tag)) (nodeAt img n) c h f)
 
   AtRoot : ℕ → Type 0
-  AtRoot t = straysTree [] (treeAt (nodeAt s) (nodesOf s - 1)) t ≡ true
+  AtRoot t = straysTree [] (treeAt (nodeAt img) (nodesOf img - 1)) t ≡ true
 
-  at-root : (t c : ℕ) → c + 1 ≡ nodesOf s → straysTree (names c) (treeAt (nodeAt s) c) t ≡ true → AtRoot t
+  at-root : (t c : ℕ) → c + 1 ≡ nodesOf img → straysTree (names c) (treeAt (nodeAt img) c) t ≡ true → AtRoot t
   unfolding AtRoot
   at-root t c d e =
-      let z : nodesOf s - 1 ≡ c = omega arith in
+      let z : nodesOf img - 1 ≡ c = omega arith in
       rw (z, ← root-names c d) e
 
-  climb : (t d c : ℕ) → c < nodesOf s → nodesOf s ≤ c + 1 + d → straysTree (names c) (treeAt (nodeAt s) c) t ≡ true → AtRoot t
+  climb : (t d c : ℕ) → c < nodesOf img → nodesOf img ≤ c + 1 + d → straysTree (names c) (treeAt (nodeAt img) c) t ≡ true → AtRoot t
   climb t zero c l m e = at-root t c (omega arith) e
   climb t (suc d) c l m e =
       ⊎-elim
-      (λ (z : suc c ≡ nodesOf s). at-root t c (omega arith) e)
-      (λ (z : suc c < nodesOf s).
+      (λ (z : suc c ≡ nodesOf img). at-root t c (omega arith) e)
+      (λ (z : suc c < nodesOf img).
       let u = g .once c z in
-      let p = parent s c (nodesOf s) (omega arith) in
-      let b = child-below s (p .node) c (g .nodes (p .node) (p .below)) (p .hits-it) in
+      let p = parent img c (nodesOf img) (omega arith) in
+      let b = child-below img (p .node) c (g .nodes (p .node) (p .below)) (p .hits-it) in
       climb t d (p .node) (p .below) (omega arith) (some-here t (p .node) c (p .below) (p .hits-it) e))
-      (eq-or-lt-of-le {n = suc c} {m = nodesOf s} l)
+      (eq-or-lt-of-le {n = suc c} {m = nodesOf img} l)
 
-  own-strays : (t : ℕ) → t < nodesOf s → strayAt s t ≡ true → straysTree (names t) (treeAt (nodeAt s) t) t ≡ true
+  own-strays : (t : ℕ) → t < nodesOf img → strayAt img t ≡ true → straysTree (names t) (treeAt (nodeAt img) t) t ≡ true
   unfolding rowStrays strayAt names
-  own-strays t l e = strays-row s (names t) t t (g .nodes t l) ∙ rw (eq-eqb t t refl, e)
+  own-strays t l e = strays-row img (names t) t t (g .nodes t l) ∙ rw (eq-eqb t t refl, e)
 
-  pub strays-is : (t : ℕ) → t < nodesOf s → straysTree [] (treeAt (nodeAt s) (nodesOf s - 1)) t ≡ strayAt s t
+  pub strays-is : (t : ℕ) → t < nodesOf img → straysTree [] (treeAt (nodeAt img) (nodesOf img - 1)) t ≡ strayAt img t
   unfolding AtRoot
-  strays-is t l = go (strayAt s t) refl
+  strays-is t l = go (strayAt img t) refl
     where
-      go : (b : Bool) → strayAt s t ≡ b → straysTree [] (treeAt (nodeAt s) (nodesOf s - 1)) t ≡ b
-      go true e = climb t (nodesOf s) t l (omega arith) (own-strays t l e)
+      go : (b : Bool) → strayAt img t ≡ b → straysTree [] (treeAt (nodeAt img) (nodesOf img - 1)) t ≡ b
+      go true e = climb t (nodesOf img) t l (omega arith) (own-strays t l e)
       go false e =
-          rw (← root-names (nodesOf s - 1) (omega arith))
-          (never-strays t e (nodesOf s) (nodesOf s - 1) (omega arith) (omega arith))
+          rw (← root-names (nodesOf img - 1) (omega arith))
+          (never-strays t e (nodesOf img) (nodesOf img - 1) (omega arith) (omega arith))

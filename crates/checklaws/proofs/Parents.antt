@@ -18,19 +18,19 @@ use Rattle.rules.proofs.GoodFacts.{Fit, RowFits}
 
 -- how often k is a child of node n
 unfoldable pub hitsAt : List ℕ → ℕ → ℕ → ℕ
-hitsAt s k n = hits (rowOf (nodeAt s n .tag)) (nodeAt s n) k
+hitsAt img k n = hits (rowOf (nodeAt img n .tag)) (nodeAt img n) k
 
-pub record Parent (s : List ℕ) (k m : ℕ) : Type 0 where
+pub record Parent (img : List ℕ) (k m : ℕ) : Type 0 where
   pub node : ℕ
   pub below : node < m
-  pub hits-it : 0 < hitsAt s k node
+  pub hits-it : 0 < hitsAt img k node
 
-module _ (s : List ℕ) (k : ℕ) where
-  uses-more : (m : ℕ) → usesOf s k (suc m) ≡ usesOf s k m + hitsAt s k m
+module _ (img : List ℕ) (k : ℕ) where
+  uses-more : (m : ℕ) → usesOf img k (suc m) ≡ usesOf img k m + hitsAt img k m
   unfolding usesOf hitsAt
   uses-more m = refl
 
-  at-most : (m n : ℕ) → n < m → hitsAt s k n ≤ usesOf s k m
+  at-most : (m n : ℕ) → n < m → hitsAt img k n ≤ usesOf img k m
   at-most zero n l = absurd (omega arith)
   at-most (suc m) n l =
       let e = uses-more m in
@@ -39,7 +39,7 @@ module _ (s : List ℕ) (k : ℕ) where
       (λ (h : n < m). let i = at-most m n h in omega arith)
       (eq-or-lt-of-le {n = n} {m = m} (omega arith))
 
-  both : (m n i : ℕ) → n < i → i < m → hitsAt s k n + hitsAt s k i ≤ usesOf s k m
+  both : (m n i : ℕ) → n < i → i < m → hitsAt img k n + hitsAt img k i ≤ usesOf img k m
   both zero n i l h = absurd (omega arith)
   both (suc m) n i l h =
       let e = uses-more m in
@@ -48,7 +48,7 @@ module _ (s : List ℕ) (k : ℕ) where
       (λ (g : i < m). let j = both m n i l g in omega arith)
       (eq-or-lt-of-le {n = i} {m = m} (omega arith))
 
-  pub only : (m n i : ℕ) → usesOf s k m ≡ 1 → n < m → 0 < hitsAt s k n → i < m → (i ≡ n → ⊥) → hitsAt s k i ≡ 0
+  pub only : (m n i : ℕ) → usesOf img k m ≡ 1 → n < m → 0 < hitsAt img k n → i < m → (i ≡ n → ⊥) → hitsAt img k i ≡ 0
   only m n i e l h g f =
       elim (decLt i n) [
         | yes b ↦ let j = both m i n b l in omega arith
@@ -58,12 +58,12 @@ module _ (s : List ℕ) (k : ℕ) where
             omega arith
       ]
 
-  pub parent : (m : ℕ) → 0 < usesOf s k m → Parent s k m
+  pub parent : (m : ℕ) → 0 < usesOf img k m → Parent img k m
   unfolding usesOf
   parent zero h = absurd (omega arith)
-  parent (suc m) h = go (λ i. parent m i) (decLt 0 (hitsAt s k m))
+  parent (suc m) h = go (λ i. parent m i) (decLt 0 (hitsAt img k m))
     where
-      go : (0 < usesOf s k m → Parent s k m) → Dec (0 < hitsAt s k m) → Parent s k (suc m)
+      go : (0 < usesOf img k m → Parent img k m) → Dec (0 < hitsAt img k m) → Parent img k (suc m)
       go rest (yes i) = record { node = m; below = omega arith; hits-it = i }
       go rest (no i) =
           let e = uses-more m in
@@ -91,8 +91,8 @@ one-of (suc a) b c h f g k = f (omega arith)
 one-of zero (suc b) c h f g k = g (omega arith)
 one-of zero zero c h f g k = k (omega arith)
 
-module _ (s : List ℕ) (n : ℕ) where
-  word-below : (p : Role) (w k : ℕ) → Fit s n p w → 0 < hit p w k → w < n
+module _ (img : List ℕ) (n : ℕ) where
+  word-below : (p : Role) (w k : ℕ) → Fit img n p w → 0 < hit p w k → w < n
   unfolding hit
   word-below unused w k f h = absurd (omega arith)
   word-below index w k f h = absurd (omega arith)
@@ -101,7 +101,7 @@ module _ (s : List ℕ) (n : ℕ) where
   word-below binds w k f h = absurd (omega arith)
   word-below (child j) w k f h = f .0
 
-  row-below : (o : Option Row) (x : Node) (k : ℕ) → RowFits s n o x → 0 < hits o x k → k < n
+  row-below : (o : Option Row) (x : Node) (k : ℕ) → RowFits img n o x → 0 < hits o x k → k < n
   unfolding hits
   row-below none x k f h = absurd f
   row-below (some (row m p q r t)) x k f h =
@@ -110,6 +110,6 @@ module _ (s : List ℕ) (n : ℕ) where
       (λ i. rw (← hit-is q (x .b) k i) (word-below q (x .b) k (f .1) i))
       (λ i. rw (← hit-is r (x .c) k i) (word-below r (x .c) k (f .2) i))
 
-  pub child-below : (k : ℕ) → RowFits s n (rowOf (nodeAt s n .tag)) (nodeAt s n) → 0 < hitsAt s k n → k < n
+  pub child-below : (k : ℕ) → RowFits img n (rowOf (nodeAt img n .tag)) (nodeAt img n) → 0 < hitsAt img k n → k < n
   unfolding hitsAt
-  child-below k f h = row-below (rowOf (nodeAt s n .tag)) (nodeAt s n) k f h
+  child-below k f h = row-below (rowOf (nodeAt img n .tag)) (nodeAt img n) k f h

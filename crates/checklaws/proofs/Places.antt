@@ -21,19 +21,19 @@ pub refusal-some : (k p : ℕ) → (k ≡ 0 → ⊥) → refusal k p ≡ Refused
 unfolding refusal
 refusal-some k p h = rw (ne-eqb k 0 h)
 
-module _ (s : List ℕ) (rs : List Reason) where
-  pub none-yet : rulesSay s rs 0 ≡ Accepted
+module _ (img : List ℕ) (rs : List Reason) where
+  pub none-yet : rulesSay img rs 0 ≡ Accepted
   unfolding rulesSay lowest
   none-yet = refl
 
-  turn : (i : ℕ) → rulesSay s rs i ≡ Accepted → rulesSay s rs (suc i) ≡ placeSays s rs i
+  turn : (i : ℕ) → rulesSay img rs i ≡ Accepted → rulesSay img rs (suc i) ≡ placeSays img rs i
   unfolding rulesSay placeSays lowest orElse
   turn i e = rw e
 
-  pub goes-on : (i k : ℕ) → rulesSay s rs i ≡ Accepted → refusal k i ≡ placeSays s rs i → k ≡ 0 → rulesSay s rs (i + 1) ≡ Accepted
+  pub goes-on : (i k : ℕ) → rulesSay img rs i ≡ Accepted → refusal k i ≡ placeSays img rs i → k ≡ 0 → rulesSay img rs (i + 1) ≡ Accepted
   goes-on i k e h z = rw (add-one i) (turn i e ∙ sym h ∙ rw z (refusal-none i))
 
-  stays : (i n k p : ℕ) → rulesSay s rs i ≡ Refused k p → i ≤ n → rulesSay s rs n ≡ Refused k p
+  stays : (i n k p : ℕ) → rulesSay img rs i ≡ Refused k p → i ≤ n → rulesSay img rs n ≡ Refused k p
   unfolding rulesSay lowest orElse
   stays i zero k p e h = let d : i ≡ 0 = omega arith in rw d at e
   stays i (suc n) k p e h =
@@ -42,9 +42,9 @@ module _ (s : List ℕ) (rs : List Reason) where
       (λ (l : i < suc n). rw (stays i n k p e (omega arith)))
       (eq-or-lt-of-le {n = i} {m = suc n} h)
 
-  pub found : (i k n : ℕ) → rulesSay s rs i ≡ Accepted → refusal k i ≡ placeSays s rs i → (k ≡ 0 → ⊥) → i < n → Refused k i ≡ rulesSay s rs n
+  pub found : (i k n : ℕ) → rulesSay img rs i ≡ Accepted → refusal k i ≡ placeSays img rs i → (k ≡ 0 → ⊥) → i < n → Refused k i ≡ rulesSay img rs n
   found i k n e h z l =
       sym (stays (suc i) n k i (turn i e ∙ sym h ∙ refusal-some k i z) (omega arith))
 
-  pub ended : (i n : ℕ) → rulesSay s rs i ≡ Accepted → i ≤ n → n ≤ i → Accepted ≡ rulesSay s rs n
+  pub ended : (i n : ℕ) → rulesSay img rs i ≡ Accepted → i ≤ n → n ≤ i → Accepted ≡ rulesSay img rs n
   ended i n e l m = let d : i ≡ n = omega arith in sym (rw d at e)

@@ -21,16 +21,16 @@ module _ (a b c x : Bool) (p : x ≡ a) where
     pub third-says : not y ≡ false → (z : Bool) → z ≡ c → z ≡ (a && b && c)
     third-says h z r = rw (← p, ← q, ← r, not-false x e, not-false y h)
 
-module _ (s : List ℕ) (n : ℕ) (p q r : Role) (w : Node) (x : Bool) (e : x ≡ (blank p (w .a) && blank q (w .b) && blank r (w .c))) where
-  pub not-blank : not x ≡ true → 6 ≡ wordsReason s n p q r w
+module _ (img : List ℕ) (n : ℕ) (p q r : Role) (w : Node) (x : Bool) (e : x ≡ (blank p (w .a) && blank q (w .b) && blank r (w .c))) where
+  pub not-blank : not x ≡ true → 6 ≡ wordsReason img n p q r w
   unfolding wordsReason
   not-blank h = rw (← e, not-true x h)
 
-  module _ (f : not x ≡ false) (y : Bool) (g : y ≡ (suits s n p (w .a) && suits s n q (w .b) && suits s n r (w .c))) where
-    pub not-right : not y ≡ true → 7 ≡ wordsReason s n p q r w
+  module _ (f : not x ≡ false) (y : Bool) (g : y ≡ (suits img n p (w .a) && suits img n q (w .b) && suits img n r (w .c))) where
+    pub not-right : not y ≡ true → 7 ≡ wordsReason img n p q r w
     unfolding wordsReason
     not-right h = rw (← e, not-false x f, ← g, not-true y h)
 
-    pub blank-and-right : not y ≡ false → 0 ≡ wordsReason s n p q r w
+    pub blank-and-right : not y ≡ false → 0 ≡ wordsReason img n p q r w
     unfolding wordsReason
     blank-and-right h = rw (← e, not-false x f, ← g, not-false y h)

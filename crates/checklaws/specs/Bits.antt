@@ -20,9 +20,9 @@ pub record Adds (w x w′ : ℕ) : Type 0 where
   pub adds : (y : ℕ) → bit w′ y ≡ (eqb x y || bit w y)
 
 -- the two words are these names
-pub record Shows (lo hi : ℕ) (Γ : Names) : Type 0 where
-  pub low : (x : ℕ) → x < 64 → bit lo x ≡ has x Γ
-  pub high : (x : ℕ) → x < 64 → bit hi x ≡ has (64 + x) Γ
+pub record Shows (lo hi : ℕ) (visible : Names) : Type 0 where
+  pub low : (x : ℕ) → x < 64 → bit lo x ≡ has x visible
+  pub high : (x : ℕ) → x < 64 → bit hi x ≡ has (64 + x) visible
 
 -- a word that uses or declares a name: the name has a bit
 abbrev pub NameFits : Role → ℕ → Type 0
@@ -43,10 +43,10 @@ given binds w v t = t
 given (child k) w v t = set t w v
 
 -- what the nodes hold once those from n up have handed down
-pub record Shown (s : List ℕ) (n : ℕ) (los his : List ℕ) : Type 0 where
-  pub long-lo : nodesOf s ≤ length los
+pub record Shown (img : List ℕ) (n : ℕ) (los his : List ℕ) : Type 0 where
+  pub long-lo : nodesOf img ≤ length los
   pub long-hi : length his ≡ length los
-  pub shows : (k : ℕ) → k < length los → Shows (getD los k 0) (getD his k 0) (handed s n k)
+  pub shows : (k : ℕ) → k < length los → Shows (getD los k 0) (getD his k 0) (handed img n k)
 
 -- each child of a node is
 abbrev pub givenAll : Role → Role → Role → Node → ℕ → List ℕ → List ℕ
@@ -58,5 +58,5 @@ pub record Visited (p q r : Role) (x : Node) (n : ℕ) (los his los′ his′ : 
   pub hi : ℕ
   pub gives-lo : los′ ≡ givenAll p q r x lo los
   pub gives-hi : his′ ≡ givenAll p q r x hi his
-  pub grows : (Γ : Names) → Shows (getD los n 0) (getD his n 0) Γ → Shows lo hi (growWord Γ p (x .a))
-  pub strays : (Γ : Names) → Shows (getD los n 0) (getD his n 0) Γ → bad ≡ strayWord Γ p (x .a)
+  pub grows : (visible : Names) → Shows (getD los n 0) (getD his n 0) visible → Shows lo hi (growWord visible p (x .a))
+  pub strays : (visible : Names) → Shows (getD los n 0) (getD his n 0) visible → bad ≡ strayWord visible p (x .a)

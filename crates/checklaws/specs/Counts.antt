@@ -24,6 +24,6 @@ pub record TicksAll (p q r : Role) (x : Node) (t t′ : List ℕ) : Type 0 where
       → getD t′ k 0 ≡ getD t k 0 + (hit p (x .a) k + hit q (x .b) k + hit r (x .c) k)
 
 -- the uses by the nodes below m
-pub record Counts (s : List ℕ) (m : ℕ) (t : List ℕ) : Type 0 where
-  pub long : nodesOf s ≤ length t
-  pub counts : (k : ℕ) → k < length t → getD t k 0 ≡ usesOf s k m
+pub record Counts (img : List ℕ) (m : ℕ) (t : List ℕ) : Type 0 where
+  pub long : nodesOf img ≤ length t
+  pub counts : (k : ℕ) → k < length t → getD t k 0 ≡ usesOf img k m

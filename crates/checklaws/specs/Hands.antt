@@ -1,5 +1,5 @@
 -- Rule 9 from the last node down: each node hands its visible names to its children, and `var` and `proc` add theirs.
--- `handed s n k` are the names that node k holds once the nodes from n up have handed down; the root holds none. A node
+-- `handed img n k` are the names that node k holds once the nodes from n up have handed down; the root holds none. A node
 -- strays when it uses a name that it doesn't hold. That this is the strays of the tree, in a script whose nodes fit and
 -- are each used once, is shown in proofs/Hands. Assumes nothing.
 use Prim.Native.Nat.{ℕ, zero, suc, _+_, _-_, _<_}
@@ -16,28 +16,28 @@ use Rattle.rules.proofs.GoodFacts.{Sized, RowFits}
 use Rattle.rules.proofs.StrayRows.{strayWord, growWord, strayRow, growRow}
 
 -- what is known of a script when rule 9 is looked at
-pub record Formed (s : List ℕ) : Type 0 where
-  pub sized : Sized s
-  pub nodes : (n : ℕ) → n < nodesOf s → RowFits s n (rowOf (nodeAt s n .tag)) (nodeAt s n)
-  pub once : (n : ℕ) → suc n < nodesOf s → usesOf s n (nodesOf s) ≡ 1
-  pub root : kindOf (nodeAt s (nodesOf s - 1) .tag) ≡ some aCmd
+pub record Formed (img : List ℕ) : Type 0 where
+  pub sized : Sized img
+  pub nodes : (n : ℕ) → n < nodesOf img → RowFits img n (rowOf (nodeAt img n .tag)) (nodeAt img n)
+  pub once : (n : ℕ) → suc n < nodesOf img → usesOf img n (nodesOf img) ≡ 1
+  pub root : kindOf (nodeAt img (nodesOf img - 1) .tag) ≡ some aCmd
 
-module _ (s : List ℕ) where
+module _ (img : List ℕ) where
   -- node n, which holds T n, hands down
   unfoldable pub handOn : ℕ → (ℕ → Names) → ℕ → Names
   handOn n T k =
-      cond (ltb 0 (hits (rowOf (nodeAt s n .tag)) (nodeAt s n) k))
-      (growRow (T n) (rowOf (nodeAt s n .tag)) (nodeAt s n))
+      cond (ltb 0 (hits (rowOf (nodeAt img n .tag)) (nodeAt img n) k))
+      (growRow (T n) (rowOf (nodeAt img n .tag)) (nodeAt img n))
       (T k)
 
   -- the last j nodes have handed down
   unfoldable pub handedBy : ℕ → ℕ → Names
   handedBy zero k = []
-  handedBy (suc j) k = handOn (nodesOf s - suc j) (handedBy j) k
+  handedBy (suc j) k = handOn (nodesOf img - suc j) (handedBy j) k
 
   -- the nodes from n up have
   unfoldable pub handed : ℕ → ℕ → Names
-  handed n k = handedBy (nodesOf s - n) k
+  handed n k = handedBy (nodesOf img - n) k
 
   unfoldable pub strayAt : ℕ → Bool
-  strayAt n = strayRow (handed (n + 1) n) (rowOf (nodeAt s n .tag)) (nodeAt s n)
+  strayAt n = strayRow (handed (n + 1) n) (rowOf (nodeAt img n .tag)) (nodeAt img n)

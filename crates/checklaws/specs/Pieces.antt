@@ -13,7 +13,7 @@ use Rattle.rules.specs.declared.Verdict.the-variants.{Accepted, Refused}
 use Rattle.rules.specs.Image.{Kind, Role, kindOf, fieldsOf, namesOf, nodeAt}
 use Rattle.rules.specs.Refusals.{Reason, wrongCode, noSuchTag, unusedWord, wrongOperand, notOnce, undeclared, badContents, rightLength, blank, suits, atPlace, lowest}
 use Rattle.rules.specs.State.{size}
-use Rattle.rules.proofs.Groups.{broken}
+use Rattle.rules.proofs.ReasonTable.{broken}
 
 -- the verdict of a reason at a place
 unfoldable pub refusal : ℕ → ℕ → Verdict
@@ -21,10 +21,10 @@ refusal k p = cond (eqb k 0) Accepted (Refused k p)
 
 -- 10, 1, 2 and 3, whose place is 0
 unfoldable pub headReason : ℕ → List ℕ → ℕ
-headReason words s =
+headReason words img =
     cond (ltb words size)
     10
-    (cond (ltb (length s) 10) 1 (cond (badContents s) 2 (cond (not (eqb (length s) (rightLength s))) 3 0)))
+    (cond (ltb (length img) 10) 1 (cond (badContents img) 2 (cond (not (eqb (length img) (rightLength img))) 3 0)))
 
 -- the rules that are tested together
 abbrev pub codeRules : List Reason
@@ -41,25 +41,25 @@ nameRules = undeclared ∷ []
 
 -- what rules say at one place, and at the places below n
 unfoldable pub placeSays : List ℕ → List Reason → ℕ → Verdict
-placeSays s rs p = atPlace (broken size s) rs p
+placeSays img rs p = atPlace (broken size img) rs p
 
 unfoldable pub rulesSay : List ℕ → List Reason → ℕ → Verdict
-rulesSay s rs n = lowest (broken size s) rs n
+rulesSay img rs n = lowest (broken size img) rs n
 
 -- 6 and 7, of the roles of a node's words
 unfoldable pub wordsReason : List ℕ → ℕ → Role → Role → Role → Node → ℕ
-wordsReason s n p q r x =
+wordsReason img n p q r x =
     cond (blank p (x .a) && blank q (x .b) && blank r (x .c))
-    (cond (suits s n p (x .a) && suits s n q (x .b) && suits s n r (x .c)) 0 7)
+    (cond (suits img n p (x .a) && suits img n q (x .b) && suits img n r (x .c)) 0 7)
     6
 
 -- the kind of a child of node n; a child that isn't below n has none
 unfoldable pub childKind : List ℕ → ℕ → ℕ → Option Kind
-childKind s n w = cond (ltb w n) (kindOf (nodeAt s w .tag)) none
+childKind img n w = cond (ltb w n) (kindOf (nodeAt img w .tag)) none
 
 -- a field index, a name in range
 abbrev pub indexRight : List ℕ → ℕ → Bool
-indexRight s w = leb 1 w && leb w (fieldsOf s)
+indexRight img w = leb 1 w && leb w (fieldsOf img)
 
 abbrev pub nameRight : List ℕ → ℕ → Bool
-nameRight s w = ltb w (namesOf s)
+nameRight img w = ltb w (namesOf img)

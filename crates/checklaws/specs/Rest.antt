@@ -7,10 +7,10 @@ use Rattle.rules.specs.Refusals.{orElse}
 use Rattle.checklaws.specs.Pieces.{codeRules, nodeRules, useRules, nameRules, rulesSay}
 
 unfoldable pub usesSay : List ℕ → Verdict
-usesSay s = orElse (rulesSay s useRules (nodesOf s)) (rulesSay s nameRules (nodesOf s))
+usesSay img = orElse (rulesSay img useRules (nodesOf img)) (rulesSay img nameRules (nodesOf img))
 
 unfoldable pub nodesSay : List ℕ → Verdict
-nodesSay s = orElse (rulesSay s nodeRules (nodesOf s)) (usesSay s)
+nodesSay img = orElse (rulesSay img nodeRules (nodesOf img)) (usesSay img)
 
 unfoldable pub bodiesSay : List ℕ → Verdict
-bodiesSay s = orElse (rulesSay s codeRules (fieldsOf s)) (nodesSay s)
+bodiesSay img = orElse (rulesSay img codeRules (fieldsOf img)) (nodesSay img)

@@ -23,11 +23,12 @@ use Rattle.rules.proofs.GoodFacts.{Good}
 use Rattle.rules.specs.State.{Store, mostFrames, mostObjects}
 use Rattle.rules.specs.Script.{Script, scriptOf}
 use Rattle.rules.specs.Control.{Control, goesTo}
+use Rattle.rules.specs.Run.{machine}
 use Rattle.rules.specs.Step.{put, remains, Plan, does, refuses, plan, follow, step, Deed, deed, shortOf, apply, miniOO}
 use Rattle.words.specs.Layout.{flat, flatAll, padded, layout}
 use Rattle.safety.specs.Safe.{Safe, StoreFits, Real, Older}
 use Rattle.safety.specs.Fits as Fits
-use Rattle.safety.specs.Rooms.{Does}
+use Rattle.safety.proofs.Plans.{Does}
 use Rattle.safety.proofs.Rooms.{Made, made-only}
 use Rattle.safety.proofs.Preserved.{step-keeps, ready-at}
 use Rattle.safety.proofs.Progress.{fine-exec}
@@ -43,7 +44,7 @@ use Rattle.store.specs.Effects as Effects
 use Rattle.holds.specs.Holds.{Holds}
 use Rattle.holds.specs.declared.Taken.{Taken}
 use Rattle.holds.specs.declared.Taken.the-variants.{Moved, Stays}
-use Rattle.holds.specs.Says.{machine, StepIs, StepSays}
+use Rattle.holds.specs.Says.{StepIs, StepSays}
 use Rattle.holds.proofs.Fitting.{lies, store-good, value-fits, code-older}
 use Rattle.decisions.specs.Decides.{Decision, Halt, Make, Makes, Decided, DecideSays, Upright, Makeable, ApplySays}
 

@@ -17,8 +17,8 @@ use Rattle.image.specs.declared.Shape.the-variants.{NoTag, Words}
 use Rattle.image.specs.Read.{At}
 use Rattle.image.specs.Tags.{kindIs, roleIs, Roles, roles, rolesIs, rolesOf}
 
-pub read-one : (s : List ℕ) (n : ℕ) (x y : Node) → At s n x → At s n y → x ≡ y
-read-one s n x y p q = p .is ∙ sym (q .is)
+pub read-one : (img : List ℕ) (n : ℕ) (x y : Node) → At img n x → At img n y → x ≡ y
+read-one img n x y p q = p .is ∙ sym (q .is)
 
 -- ---- the kind of a tag
 

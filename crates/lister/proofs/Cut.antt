@@ -16,78 +16,78 @@ use Rattle.laws.specs.Bools.{or-neither}
 use Rattle.rules.specs.declared.Verdict.the-variants.{Refused}
 use Rattle.rules.specs.Image.{wordAt, fieldStart, fieldsOf, nodeStart, nodesOf, namesOf}
 use Rattle.rules.specs.State.{size}
-use Rattle.rules.specs.Refusals.{check, judge, order, lowest, atPlace, orElse, badContents, rightLength, ruleOf, rule}
-use Rattle.rules.proofs.Groups.{places, broken, reasonNo}
+use Rattle.rules.specs.Refusals.{check, lowest, atPlace, orElse, badContents, rightLength, ruleOf, rule}
+use Rattle.rules.proofs.Reasons.{check-in-order}
 use Rattle.report.specs.Listing.{listing, listingLines, linesBy, printed}
 use Rattle.lister.proofs.Printed.{printed-whole, printed-long}
 
 -- ---- a script that is longer than any image
 
 -- right contents say at most 16 fields and at most 2,048 nodes
-counts : (s : List ℕ) → badContents s ≡ false → (fieldsOf s ≤ 16) × (nodesOf s ≤ 2048)
+counts : (img : List ℕ) → badContents img ≡ false → (fieldsOf img ≤ 16) × (nodesOf img ≤ 2048)
 unfolding badContents
-counts s e =
-    let f = or-neither _ (ltb 128 (namesOf s)) e in
-    let g = or-neither _ (ltb 2048 (nodesOf s)) (f .0) in
-    let h = or-neither _ (eqb (nodesOf s) 0) (g .0) in
-    let i = or-neither _ (not (eqb (nodeStart s) (10 + 2 * fieldsOf s))) (h .0) in
-    let j = or-neither (not (eqb (fieldStart s) 10)) (ltb 16 (fieldsOf s)) (i .0) in
-    (ltb-false 16 (fieldsOf s) (j .1), ltb-false 2048 (nodesOf s) (g .1))
+counts img e =
+    let f = or-neither _ (ltb 128 (namesOf img)) e in
+    let g = or-neither _ (ltb 2048 (nodesOf img)) (f .0) in
+    let h = or-neither _ (eqb (nodesOf img) 0) (g .0) in
+    let i = or-neither _ (not (eqb (nodeStart img) (10 + 2 * fieldsOf img))) (h .0) in
+    let j = or-neither (not (eqb (fieldStart img) 10)) (ltb 16 (fieldsOf img)) (i .0) in
+    (ltb-false 16 (fieldsOf img) (j .1), ltb-false 2048 (nodesOf img) (g .1))
 
-too-long : (s : List ℕ) → 16426 < length s → check size s ≡ cond (badContents s) (Refused 2 0) (Refused 3 0)
-unfolding check judge order lowest atPlace orElse size rightLength ruleOf rule
-too-long s h = go (badContents s) refl
+too-long : (img : List ℕ) → 16426 < length img → check size img ≡ cond (badContents img) (Refused 2 0) (Refused 3 0)
+unfolding lowest atPlace orElse size rightLength ruleOf rule
+too-long img h = go (badContents img) refl
   where
-    short : ltb (length s) 10 ≡ false
-    short = le-ltb (length s) 10 (omega arith)
+    short : ltb (length img) 10 ≡ false
+    short = le-ltb (length img) 10 (omega arith)
 
-    go : (b : Bool) → badContents s ≡ b → check size s ≡ cond b (Refused 2 0) (Refused 3 0)
-    go true e = rw (short, e)
+    go : (b : Bool) → badContents img ≡ b → check size img ≡ cond b (Refused 2 0) (Refused 3 0)
+    go true e = check-in-order size img ∙ rw (short, e)
     go false e =
-        let c = counts s e in
-        let n : eqb (length s) (10 + 2 * fieldsOf s + 8 * nodesOf s) ≡ false = ne-eqb (length s) (10 + 2 * fieldsOf s + 8 * nodesOf s) (λ z. omega (arith, c .0, c .1)) in
-        rw (short, e, n)
+        let c = counts img e in
+        let n : eqb (length img) (10 + 2 * fieldsOf img + 8 * nodesOf img) ≡ false = ne-eqb (length img) (10 + 2 * fieldsOf img + 8 * nodesOf img) (λ z. omega (arith, c .0, c .1)) in
+        check-in-order size img ∙ rw (short, e, n)
 
 -- the contents are among the first bytes
-same-word : (s : List ℕ) (i : ℕ) → i < 10 → wordAt (take 16427 s) i ≡ wordAt s i
-same-word s i h = rw (getD-take 16427 s i 0 (omega arith), getD-take 16427 s (i + 1) 0 (omega arith))
+same-word : (img : List ℕ) (i : ℕ) → i < 10 → wordAt (take 16427 img) i ≡ wordAt img i
+same-word img i h = rw (getD-take 16427 img i 0 (omega arith), getD-take 16427 img (i + 1) 0 (omega arith))
 
-same-contents : (s : List ℕ) → badContents (take 16427 s) ≡ badContents s
+same-contents : (img : List ℕ) → badContents (take 16427 img) ≡ badContents img
 unfolding fieldStart fieldsOf nodeStart nodesOf namesOf
-same-contents s = go (take 16427 s) (same-word s 0 (omega arith)) (same-word s 2 (omega arith)) (same-word s 4 (omega arith)) (same-word s 6 (omega arith)) (same-word s 8 (omega arith))
+same-contents img = go (take 16427 img) (same-word img 0 (omega arith)) (same-word img 2 (omega arith)) (same-word img 4 (omega arith)) (same-word img 6 (omega arith)) (same-word img 8 (omega arith))
   where
-    go : (t : List ℕ) → fieldStart t ≡ fieldStart s → fieldsOf t ≡ fieldsOf s → nodeStart t ≡ nodeStart s → nodesOf t ≡ nodesOf s → namesOf t ≡ namesOf s
-        → badContents t ≡ badContents s
-    go t a b c d e = unfold badContents in rw (a, b, c, d, e)
+    go : (img′ : List ℕ) → fieldStart img′ ≡ fieldStart img → fieldsOf img′ ≡ fieldsOf img → nodeStart img′ ≡ nodeStart img → nodesOf img′ ≡ nodesOf img → namesOf img′ ≡ namesOf img
+        → badContents img′ ≡ badContents img
+    go img′ a b c d e = unfold badContents in rw (a, b, c, d, e)
 
 -- ---- what is printed
 
 -- two such scripts with the same contents
-long-listing : (s t cs : List ℕ) (b : Bool) → check size s ≡ cond b (Refused 2 0) (Refused 3 0) → check size t ≡ cond b (Refused 2 0) (Refused 3 0)
-    → listing s cs ≡ listing t cs
+long-listing : (img img′ cs : List ℕ) (b : Bool) → check size img ≡ cond b (Refused 2 0) (Refused 3 0) → check size img′ ≡ cond b (Refused 2 0) (Refused 3 0)
+    → listing img cs ≡ listing img′ cs
 unfolding listing listingLines linesBy
-long-listing s t cs true e f = rw (e, f)
-long-listing s t cs false e f = rw (e, f)
+long-listing img img′ cs true e f = rw (e, f)
+long-listing img img′ cs false e f = rw (e, f)
 
-cut-script : (s cs : List ℕ) → listing (take 16427 s) cs ≡ listing s cs
-cut-script s cs = elim (decLt 16426 (length s)) [
+cut-script : (img cs : List ℕ) → listing (take 16427 img) cs ≡ listing img cs
+cut-script img cs = elim (decLt 16426 (length img)) [
   | yes l ↦
-      let n = length-take-le 16427 s (omega arith) in
-      long-listing (take 16427 s) s cs (badContents s)
-      (too-long (take 16427 s) (omega arith) ∙ ap (λ (b : Bool). cond b (Refused 2 0) (Refused 3 0)) (same-contents s))
-      (too-long s l)
-  | no f ↦ ap (λ (t : List ℕ). listing t cs) (take-all 16427 s (omega arith))
+      let n = length-take-le 16427 img (omega arith) in
+      long-listing (take 16427 img) img cs (badContents img)
+      (too-long (take 16427 img) (omega arith) ∙ ap (λ (b : Bool). cond b (Refused 2 0) (Refused 3 0)) (same-contents img))
+      (too-long img l)
+  | no f ↦ ap (λ (t : List ℕ). listing t cs) (take-all 16427 img (omega arith))
 ]
 
-pub cut-unseen : (s cs : List ℕ) → printed (some (take 16427 s)) (some (take 4097 cs)) ≡ printed (some s) (some cs)
-cut-unseen s cs = elim (decLt 4096 (length cs)) [
+pub cut-unseen : (img cs : List ℕ) → printed (some (take 16427 img)) (some (take 4097 cs)) ≡ printed (some img) (some cs)
+cut-unseen img cs = elim (decLt 4096 (length cs)) [
   | yes l ↦
       let n = length-take-le 4097 cs (omega arith) in
-      printed-long (take 16427 s) (take 4097 cs) (omega arith) ∙ sym (printed-long s cs l)
+      printed-long (take 16427 img) (take 4097 cs) (omega arith) ∙ sym (printed-long img cs l)
   | no f ↦
       let h : length cs ≤ 4096 = omega arith in
-      ap (λ (t : List ℕ). printed (some (take 16427 s)) (some t)) (take-all 4097 cs (omega arith))
-      ∙ printed-whole (take 16427 s) cs h
-      ∙ cut-script s cs
-      ∙ sym (printed-whole s cs h)
+      ap (λ (t : List ℕ). printed (some (take 16427 img)) (some t)) (take-all 4097 cs (omega arith))
+      ∙ printed-whole (take 16427 img) cs h
+      ∙ cut-script img cs
+      ∙ sym (printed-whole img cs h)
 ]

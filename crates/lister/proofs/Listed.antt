@@ -52,81 +52,81 @@ unfolding answered
 accepted-by Accepted r e n h = (refl, cc, cc)
 accepted-by (Refused j q) r e n h = absurd (mixed j q n e h)
 
-module _ (bytes cs : List ℕ) where
+module _ (img cs : List ℕ) where
   abbrev left : Ran Store
-  left = runScript bytes cs
+  left = runScript img cs
 
   -- the text of a refused script
-  text-refused : (k p : ℕ) → check size bytes ≡ Refused k p → refusedLine k p ≡ listing bytes cs
+  text-refused : (k p : ℕ) → check size img ≡ Refused k p → refusedLine k p ≡ listing img cs
   unfolding listing listingLines linesBy flatten
   text-refused k p e = rw (e, append-nil)
 
-  text-accepted : check size bytes ≡ Accepted → flatten (runLines bytes (rowsOf bytes cs) left) ≡ listing bytes cs
+  text-accepted : check size img ≡ Accepted → flatten (runLines img (rowsOf img cs) left) ≡ listing img cs
   unfolding listing listingLines linesBy
   text-accepted e = rw e
 
-  module _ (are-bytes : Bytes bytes) (ok : check size bytes ≡ Accepted) where
-    safe : Safe (scriptOf bytes) (left .store) (left .control)
+  module _ (are-bytes : Bytes img) (ok : check size img ≡ Accepted) where
+    safe : Safe (scriptOf img) (left .store) (left .control)
     unfolding runScript
-    safe = run-sound (scriptOf bytes) (rootOf bytes) cs (accepted-fits size bytes are-bytes ok) .safe
+    safe = run-sound (scriptOf img) (rootOf img) cs (accepted-fits size img are-bytes ok) .safe
 
     -- an object holds F values
-    full : (k : ℕ) (vs : List Value) → getElem? (left .store .objects) k ≡ some vs → length vs ≡ fieldsOf bytes
+    full : (k : ℕ) (vs : List Value) → getElem? (left .store .objects) k ≡ some vs → length vs ≡ fieldsOf img
     unfolding scriptOf
     full k vs e = safe .store .objects k vs e .long
 
     lies : (rest ws : List ℕ) → ws ≡ layout (left .store) (left .control) ++ rest → Lies (left .store) (left .control) rest ws
-    lies rest ws e = record { good = store-good bytes (good size bytes ok) (left .store) (safe .store) (left .control) (safe .control); is = e }
+    lies rest ws e = record { good = store-good img (good size img ok) (left .store) (safe .store) (left .control) (safe .control); is = e }
 
     run-text : (rest ws lent rows : List ℕ) (e : End) (n : ℕ) → ws ≡ layout (left .store) (left .control) ++ rest
-        → rows ≡ placeRows lent 0 (rowsOf bytes cs) → 5 * n ≤ length lent → e ≡ left .end → n ≡ left .steps
-        → runText bytes ws rows e n ≡ listing bytes cs
+        → rows ≡ placeRows lent 0 (rowsOf img cs) → 5 * n ≤ length lent → e ≡ left .end → n ≡ left .steps
+        → runText img ws rows e n ≡ listing img cs
     run-text rest ws lent rows e n is placed room ends steps =
         let l = lies rest ws is in
-        let count : n ≡ length (rowsOf bytes cs) = steps ∙ row-count bytes cs in
-        let read : rowsIn rows n ≡ rowsOf bytes cs =
-        rw (placed, count) (rows-are (rowsOf bytes cs) lent (omega arith)) in
-        text-is bytes ws rows (rowsOf bytes cs) left e n read
+        let count : n ≡ length (rowsOf img cs) = steps ∙ row-count img cs in
+        let read : rowsIn rows n ≡ rowsOf img cs =
+        rw (placed, count) (rows-are (rowsOf img cs) lent (omega arith)) in
+        text-is img ws rows (rowsOf img cs) left e n read
         (frames-are (left .store) (left .control) rest ws l)
-        (objects-are (left .store) (left .control) rest ws l bytes full)
+        (objects-are (left .store) (left .control) rest ws l img full)
         ends steps
         ∙ text-accepted ok
 
 -- ---- a traced run with a workspace of the size and rows for 4,096 steps
 
-module _ (bytes cs : List ℕ) (a : Answer) (ws after lent rows : List ℕ) (says : Traces bytes cs a ws after lent rows) (sized : length ws ≡ 5378) where
-  answer-is : a ≡ answered (check size bytes) (runScript bytes cs)
+module _ (img cs : List ℕ) (a : Answer) (ws after lent rows : List ℕ) (says : Traces img cs a ws after lent rows) (sized : length ws ≡ 5378) where
+  answer-is : a ≡ answered (check size img) (runScript img cs)
   unfolding answerOf size
-  answer-is = says .answer ∙ ap (λ (n : ℕ). answerOf n bytes cs) sized
+  answer-is = says .answer ∙ ap (λ (n : ℕ). answerOf n img cs) sized
 
-  pub listed-refused : (k p r : ℕ) (d o : List ℕ) → a ≡ Refusal k p → Line 128 (refusedLine k p) d r o → Line 1179904 (listing bytes cs) d r o
+  pub listed-refused : (k p r : ℕ) (d o : List ℕ) → a ≡ Refusal k p → Line 128 (refusedLine k p) d r o → Line 1179904 (listing img cs) d r o
   listed-refused k p r d o e w =
-      let z = refused-by (check size bytes) (runScript bytes cs) k p (sym answer-is ∙ e) in
-      line-same 128 1179904 r (refusedLine k p) (listing bytes cs) d o w (text-refused bytes cs k p z) (omega arith)
+      let z = refused-by (check size img) (runScript img cs) k p (sym answer-is ∙ e) in
+      line-same 128 1179904 r (refusedLine k p) (listing img cs) d o w (text-refused img cs k p z) (omega arith)
 
   module _ (few : length cs ≤ 4096) (e : End) (n : ℕ) (ends : a ≡ Ending e n) where
-    behind : (check size bytes ≡ Accepted) × (e ≡ runScript bytes cs .end) × (n ≡ runScript bytes cs .steps)
-    behind = accepted-by (check size bytes) (runScript bytes cs) e n (sym answer-is ∙ ends)
+    behind : (check size img ≡ Accepted) × (e ≡ runScript img cs .end) × (n ≡ runScript img cs .steps)
+    behind = accepted-by (check size img) (runScript img cs) e n (sym answer-is ∙ ends)
 
     few-steps : n ≤ 4096
-    few-steps = let l = script-steps bytes cs in let s = behind .2 in omega arith
+    few-steps = let l = script-steps img cs in let s = behind .2 in omega arith
 
     -- what the printing of the run asks
     pub run-asks : (d : List ℕ) → 1179904 ≤ length d → length rows ≡ 20480 → length after ≡ 5378
-        → (128 * (n + 5122) ≤ length d) × ((10 ≤ length bytes) × ((5378 ≤ length after) × (5 * n ≤ length rows)))
+        → (128 * (n + 5122) ≤ length d) × ((10 ≤ length img) × ((5378 ≤ length after) × (5 * n ≤ length rows)))
     run-asks d h l s =
         let f = few-steps in
-        (omega arith, (good size bytes (behind .0) .sized .long-enough, (omega arith, omega arith)))
+        (omega arith, (good size img (behind .0) .sized .long-enough, (omega arith, omega arith)))
 
-    pub listed-run : Bytes bytes → length lent ≡ 20480 → (r : ℕ) (d o : List ℕ) → Line (128 * (n + 5122)) (runText bytes after rows e n) d r o
-        → Line 1179904 (listing bytes cs) d r o
+    pub listed-run : Bytes img → length lent ≡ 20480 → (r : ℕ) (d o : List ℕ) → Line (128 * (n + 5122)) (runText img after rows e n) d r o
+        → Line 1179904 (listing img cs) d r o
     unfolding wordsAfter wordsAfterRun rowsAfter rowsAfterRun size
     listed-run are-bytes long r d o w =
         let f = few-steps in
         let b = behind in
-        let words : after ≡ layout (runScript bytes cs .store) (runScript bytes cs .control) ++ drop size ws =
+        let words : after ≡ layout (runScript img cs .store) (runScript img cs .control) ++ drop size ws =
         says .words ∙ rw (sized, b .0) in
-        let placed : rows ≡ placeRows lent 0 (rowsOf bytes cs) = says .rows ∙ rw (sized, b .0) in
-        line-same (128 * (n + 5122)) 1179904 r (runText bytes after rows e n) (listing bytes cs) d o w
-        (run-text bytes cs are-bytes (b .0) (drop size ws) after lent rows e n words placed (omega arith) (b .1) (b .2))
+        let placed : rows ≡ placeRows lent 0 (rowsOf img cs) = says .rows ∙ rw (sized, b .0) in
+        line-same (128 * (n + 5122)) 1179904 r (runText img after rows e n) (listing img cs) d o w
+        (run-text img cs are-bytes (b .0) (drop size ws) after lent rows e n words placed (omega arith) (b .1) (b .2))
         (omega arith)

@@ -12,13 +12,13 @@ use Rattle.text.specs.Written.{Line}
 use Rattle.text.proofs.LineLaws.{line-same}
 use Rattle.lister.specs.Given.{given}
 
-pub printed-whole : (bytes cs : List ℕ) → length cs ≤ 4096 → printed (some bytes) (some cs) ≡ listing bytes cs
+pub printed-whole : (img cs : List ℕ) → length cs ≤ 4096 → printed (some img) (some cs) ≡ listing img cs
 unfolding printed mostChoices
-printed-whole bytes cs h = rw (le-leb (length cs) 4096 h)
+printed-whole img cs h = rw (le-leb (length cs) 4096 h)
 
-pub printed-long : (bytes cs : List ℕ) → 4096 < length cs → printed (some bytes) (some cs) ≡ choicesTooLong
+pub printed-long : (img cs : List ℕ) → 4096 < length cs → printed (some img) (some cs) ≡ choicesTooLong
 unfolding printed mostChoices
-printed-long bytes cs h = rw (lt-leb (length cs) 4096 h)
+printed-long img cs h = rw (lt-leb (length cs) 4096 h)
 
 missing : (b : Bool) → not b ≡ true → b ≡ false
 missing true e = sym e
@@ -28,9 +28,9 @@ there : (b : Bool) → not b ≡ false → b ≡ true
 there true e = refl
 there false e = sym e
 
-module _ (found also-found : Bool) (bytes cs : List ℕ) (r : ℕ) (d o : List ℕ) where
+module _ (found also-found : Bool) (img cs : List ℕ) (r : ℕ) (d o : List ℕ) where
   abbrev text : List ℕ
-  text = printed (given found bytes) (given also-found cs)
+  text = printed (given found img) (given also-found cs)
 
   pub answers-no-script : not found ≡ true → Line 128 noInput d r o → Line 1179904 text d r o
   unfolding printed
@@ -40,10 +40,10 @@ module _ (found also-found : Bool) (bytes cs : List ℕ) (r : ℕ) (d o : List �
   unfolding printed
   answers-no-choices e f w = line-same 128 1179904 r noInput text d o w (rw (there found e, missing also-found f)) (omega arith)
 
-  pub answers-listing : not found ≡ false → not also-found ≡ false → length cs ≤ 4096 → Line 1179904 (listing bytes cs) d r o → Line 1179904 text d r o
+  pub answers-listing : not found ≡ false → not also-found ≡ false → length cs ≤ 4096 → Line 1179904 (listing img cs) d r o → Line 1179904 text d r o
   answers-listing e f h w =
-      line-same 1179904 1179904 r (listing bytes cs) text d o w (rw (there found e, there also-found f) (sym (printed-whole bytes cs h))) (omega arith)
+      line-same 1179904 1179904 r (listing img cs) text d o w (rw (there found e, there also-found f) (sym (printed-whole img cs h))) (omega arith)
 
   pub answers-long : not found ≡ false → not also-found ≡ false → 4096 < length cs → Line 128 choicesTooLong d r o → Line 1179904 text d r o
   answers-long e f h w =
-      line-same 128 1179904 r choicesTooLong text d o w (rw (there found e, there also-found f) (sym (printed-long bytes cs h))) (omega arith)
+      line-same 128 1179904 r choicesTooLong text d o w (rw (there found e, there also-found f) (sym (printed-long img cs h))) (omega arith)

@@ -10,8 +10,8 @@ use Rattle.rules.specs.declared.Chain.the-variants.{Empty}
 use Rattle.rules.specs.declared.End.the-variants.{Stopped}
 use Rattle.rules.specs.declared.Stop.the-variants.{Full}
 use Rattle.rules.specs.State.{empty}
-use Rattle.rules.specs.Control.{Control, Move, move, movable, opened, Outcome, goesTo, stops}
-use Rattle.rules.specs.Step.{fits, Machine, chosen, plan, follow, step, miniOO}
+use Rattle.rules.specs.Control.{Control, fits, Move, move, movable, opened, Outcome, goesTo, stops}
+use Rattle.rules.specs.Step.{Machine, chosen, plan, follow, step, miniOO}
 use Rattle.rules.specs.Run.{ran, onward, runFrom, run, runScript, begins}
 use Rattle.rules.specs.Script.{scriptOf, rootOf}
 use Rattle.words.specs.Lent.{rowThen, rowsFrom, rows, stepRow, rowsOf}
@@ -47,6 +47,6 @@ module _ {S E A : Type 0} (m : Machine S E) (keep : ℕ → ℕ → S → A) whe
       go true = let e = from cs 0 s (some (opened (m .cmdAt root) Empty)) in omega arith
       go false = refl
 
-pub row-count : (bytes cs : List ℕ) → runScript bytes cs .steps ≡ length (rowsOf bytes cs)
+pub row-count : (img cs : List ℕ) → runScript img cs .steps ≡ length (rowsOf img cs)
 unfolding runScript rowsOf
-row-count bytes cs = whole (miniOO (scriptOf bytes)) (stepRow bytes) empty (rootOf bytes) cs
+row-count img cs = whole (miniOO (scriptOf img)) (stepRow img) empty (rootOf img) cs

@@ -45,7 +45,7 @@ fn with_bit(w: u64, x: usize) -> u64
 
 fn seen(v: Held, x: usize) -> bool
     requires { ⌜ x < 128 ⌝ }
-    ensures { λ r. ⌜ ((Γ : Names) → Shows (v .lo) (v .hi) Γ → r ≡ has x Γ) ⌝ }
+    ensures { λ r. ⌜ ((visible : Names) → Shows (v .lo) (v .hi) visible → r ≡ has x visible) ⌝ }
 {
     let lo = v.lo;
     let hi = v.hi;
@@ -57,7 +57,7 @@ fn seen(v: Held, x: usize) -> bool
 
 fn also(v: Held, x: usize) -> Held
     requires { ⌜ x < 128 ⌝ }
-    ensures { λ r. ⌜ ((Γ : Names) → Shows (v .lo) (v .hi) Γ → Shows (r .lo) (r .hi) (x ∷ Γ)) ⌝ }
+    ensures { λ r. ⌜ ((visible : Names) → Shows (v .lo) (v .hi) visible → Shows (r .lo) (r .hi) (x ∷ visible)) ⌝ }
 {
     let lo = v.lo;
     let hi = v.hi;
@@ -72,7 +72,7 @@ fn also(v: Held, x: usize) -> Held
 // Does this word use a name that isn't visible?
 fn stray(p: Operand, w: usize, v: Held) -> bool
     requires { ⌜ NameFits (roleIs p) w ⌝ }
-    ensures { λ r. ⌜ ((Γ : Names) → Shows (v .lo) (v .hi) Γ → r ≡ strayWord Γ (roleIs p) w) ⌝ }
+    ensures { λ r. ⌜ ((visible : Names) → Shows (v .lo) (v .hi) visible → r ≡ strayWord visible (roleIs p) w) ⌝ }
 {
     match p {
         Operand::Unused => false,
@@ -89,7 +89,7 @@ fn stray(p: Operand, w: usize, v: Held) -> bool
 // The visible names, with the one that this word declares.
 fn grown(p: Operand, w: usize, v: Held) -> Held
     requires { ⌜ NameFits (roleIs p) w ⌝ }
-    ensures { λ r. ⌜ ((Γ : Names) → Shows (v .lo) (v .hi) Γ → Shows (r .lo) (r .hi) (growWord Γ (roleIs p) w)) ⌝ }
+    ensures { λ r. ⌜ ((visible : Names) → Shows (v .lo) (v .hi) visible → Shows (r .lo) (r .hi) (growWord visible (roleIs p) w)) ⌝ }
 {
     match p {
         Operand::Unused => v,

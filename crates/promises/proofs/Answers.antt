@@ -28,13 +28,13 @@ verdict-numbers-decide (Refused k p) (Refused j q) e =
     rw (a, b)
 
 -- a verdict without numbers is acceptance
-pub accepts-only : (words : ℕ) (script : List ℕ) → Accepts words script → check words script ≡ Accepted
+pub accepts-only : (words : ℕ) (img : List ℕ) → Accepts words img → check words img ≡ Accepted
 unfolding verdictNumbers
-accepts-only words script e = verdict-numbers-decide (check words script) Accepted e
+accepts-only words img e = verdict-numbers-decide (check words img) Accepted e
 
-pub accepts-if : (words : ℕ) (script : List ℕ) → check words script ≡ Accepted → Accepts words script
+pub accepts-if : (words : ℕ) (img : List ℕ) → check words img ≡ Accepted → Accepts words img
 unfolding verdictNumbers
-accepts-if words script e = ap verdictNumbers e
+accepts-if words img e = ap verdictNumbers e
 
 -- end 4 is that the choices are used up
 pub four-used-up : (e : End) → endNo e ≡ 4 → e ≡ UsedUp
@@ -59,49 +59,49 @@ snoc-apart (x ∷ xs) (y ∷ ys) a b e =
     let r = snoc-apart xs ys a b t in
     (rw (h, r .0), r .1)
 
-module _ (words : ℕ) (script choices : List ℕ) where
-  by-check : (v : Verdict) → check words script ≡ v → answerOf words script choices ≡ answered v (runScript script choices)
+module _ (words : ℕ) (img choices : List ℕ) where
+  by-check : (v : Verdict) → check words img ≡ v → answerOf words img choices ≡ answered v (runScript img choices)
   unfolding answerOf
   by-check v e = rw e
 
-  pub refused-answer : (k p : ℕ) → check words script ≡ Refused k p → answerNumbers (answerOf words script choices) ≡ refusedWith (k ∷ p ∷ [])
+  pub refused-answer : (k p : ℕ) → check words img ≡ Refused k p → answerNumbers (answerOf words img choices) ≡ refusedWith (k ∷ p ∷ [])
   unfolding answered answerNumbers
   refused-answer k p e = ap answerNumbers (by-check (Refused k p) e)
 
-  pub answer-refused : (k p : ℕ) → answerNumbers (answerOf words script choices) ≡ refusedWith (k ∷ p ∷ []) → check words script ≡ Refused k p
+  pub answer-refused : (k p : ℕ) → answerNumbers (answerOf words img choices) ≡ refusedWith (k ∷ p ∷ []) → check words img ≡ Refused k p
   unfolding answered answerNumbers
-  answer-refused k p f = go (check words script) refl
+  answer-refused k p f = go (check words img) refl
     where
-      go : (v : Verdict) → check words script ≡ v → check words script ≡ Refused k p
+      go : (v : Verdict) → check words img ≡ v → check words img ≡ Refused k p
       go Accepted e =
-          let x : answerNumbers (answered Accepted (runScript script choices)) ≡ refusedWith (k ∷ p ∷ []) = ap answerNumbers (sym (by-check Accepted e)) ∙ f in
+          let x : answerNumbers (answered Accepted (runScript img choices)) ≡ refusedWith (k ∷ p ∷ []) = ap answerNumbers (sym (by-check Accepted e)) ∙ f in
           let z : _≡_ {A = ℕ} 0 1 = cc in
           absurd (omega arith)
       go (Refused j q) e =
-          let x : Refusal j q ≡ Refusal k p = sym (by-check (Refused j q) e) ∙ numbers-decide (answerOf words script choices) (Refusal k p) f in
+          let x : Refusal j q ≡ Refusal k p = sym (by-check (Refused j q) e) ∙ numbers-decide (answerOf words img choices) (Refusal k p) f in
           let a : j ≡ k = cc in
           let b : q ≡ p = cc in
           e ∙ rw (a, b)
 
   -- the answer's numbers are those of an end, with these values, after n steps
   abbrev Ends : ℕ → List ℕ → ℕ → Type 0
-  Ends e values n = answerNumbers (answerOf words script choices) ≡ endedWith (e ∷ (values ++ (n ∷ [])))
+  Ends e values n = answerNumbers (answerOf words img choices) ≡ endedWith (e ∷ (values ++ (n ∷ [])))
 
-  module _ (accepted : check words script ≡ Accepted) where
-    is-ending : answerOf words script choices ≡ Ending (runScript script choices .end) (runScript script choices .steps)
+  module _ (accepted : check words img ≡ Accepted) where
+    is-ending : answerOf words img choices ≡ Ending (runScript img choices .end) (runScript img choices .steps)
     unfolding answered
     is-ending = by-check Accepted accepted
 
     -- they are the run's
-    pub accepted-answer : Ends (endNo (runScript script choices .end)) (endValues (runScript script choices .end)) (runScript script choices .steps)
+    pub accepted-answer : Ends (endNo (runScript img choices .end)) (endValues (runScript img choices .end)) (runScript img choices .steps)
     unfolding answerNumbers
     accepted-answer = ap answerNumbers is-ending
 
     -- .. and no others
     pub answer-ends : (e : ℕ) (values : List ℕ) (n : ℕ) → Ends e values n
-        → (endNo (runScript script choices .end) ≡ e) × (endValues (runScript script choices .end) ≡ values) × (runScript script choices .steps ≡ n)
+        → (endNo (runScript img choices .end) ≡ e) × (endValues (runScript img choices .end) ≡ values) × (runScript img choices .steps ≡ n)
     answer-ends e values n f =
-        let r : Ran _ = runScript script choices in
+        let r : Ran _ = runScript img choices in
         let x : endedWith (endNo (r .end) ∷ (endValues (r .end) ++ (r .steps ∷ []))) ≡ endedWith (e ∷ (values ++ (n ∷ []))) = sym accepted-answer ∙ f in
         let a : endNo (r .end) ≡ e = cc in
         let t : (endValues (r .end) ++ (r .steps ∷ [])) ≡ (values ++ (n ∷ [])) = cc in
@@ -109,13 +109,13 @@ module _ (words : ℕ) (script choices : List ℕ) where
         (a, b .0, b .1)
 
     -- end 3 with the value k is room k
-    pub answer-room : (k n : ℕ) → Ends 3 (k ∷ []) n → runScript script choices .end ≡ Stopped (Full k)
+    pub answer-room : (k n : ℕ) → Ends 3 (k ∷ []) n → runScript img choices .end ≡ Stopped (Full k)
     unfolding answerNumbers endNo endValues stopNo stopValues
     answer-room k n f =
-        let x : Ending (runScript script choices .end) (runScript script choices .steps) ≡ Ending (Stopped (Full k)) n =
-        sym is-ending ∙ numbers-decide (answerOf words script choices) (Ending (Stopped (Full k)) n) f in
+        let x : Ending (runScript img choices .end) (runScript img choices .steps) ≡ Ending (Stopped (Full k)) n =
+        sym is-ending ∙ numbers-decide (answerOf words img choices) (Ending (Stopped (Full k)) n) f in
         cc
 
-    pub room-answer : (k : ℕ) → runScript script choices .end ≡ Stopped (Full k) → Ends 3 (k ∷ []) (runScript script choices .steps)
+    pub room-answer : (k : ℕ) → runScript img choices .end ≡ Stopped (Full k) → Ends 3 (k ∷ []) (runScript img choices .steps)
     unfolding answerNumbers endNo endValues stopNo stopValues
-    room-answer k e = subst (λ (x : End). Ends (endNo x) (endValues x) (runScript script choices .steps)) e accepted-answer
+    room-answer k e = subst (λ (x : End). Ends (endNo x) (endValues x) (runScript img choices .steps)) e accepted-answer

@@ -61,23 +61,23 @@ not-done-without-choices = answer-of []
 
 -- what `run` ensures, of any function that gives an answer and the words
 module _ (says : List ℕ → List ℕ → List ℕ → Answer) (leaves : List ℕ → List ℕ → List ℕ → List ℕ)
-    (answers : (script choices lent : List ℕ) → says script choices lent ≡ answerOf (length lent) script choices)
-    (writes : (script choices lent : List ℕ) → leaves script choices lent ≡ wordsAfter script choices lent) where
+    (answers : (img choices lent : List ℕ) → says img choices lent ≡ answerOf (length lent) img choices)
+    (writes : (img choices lent : List ℕ) → leaves img choices lent ≡ wordsAfter img choices lent) where
   pub not-always-done : (steps : List ℕ → List ℕ → ℕ)
-      → ((script choices lent : List ℕ) → check (length lent) script ≡ Accepted → says script choices lent ≡ Ending Done (steps script choices)) → ⊥
+      → ((img choices lent : List ℕ) → check (length lent) img ≡ Accepted → says img choices lent ≡ Ending Done (steps img choices)) → ⊥
   not-always-done steps all =
       let e : Ending UsedUp 0 ≡ Ending Done (steps bytes34 []) = sym not-done-without-choices ∙ sym (answers bytes34 [] zeros) ∙ all bytes34 [] zeros accepted in
       let z : _≡_ {A = ℕ} 0 1 = cc in
       absurd (omega arith)
 
-  pub not-writing-nothing : ((script choices lent : List ℕ) → check (length lent) script ≡ Accepted → leaves script choices lent ≡ lent) → ⊥
+  pub not-writing-nothing : ((img choices lent : List ℕ) → check (length lent) img ≡ Accepted → leaves img choices lent ≡ lent) → ⊥
   not-writing-nothing all =
       let e : after (0 ∷ []) ≡ zeros = sym (writes bytes34 (0 ∷ []) zeros) ∙ all bytes34 (0 ∷ []) zeros accepted in
       let z : _≡_ {A = ℕ} 1 0 = sym frames-after-one ∙ ap (λ ws. getD ws 0 9) e ∙ no-frames-lent in
       absurd (omega arith)
 
   -- the first choice alone leaves what all of them leave
-  pub not-all-at-the-first-step : ((script lent later : List ℕ) (first : ℕ) → check (length lent) script ≡ Accepted → leaves script (first ∷ []) lent ≡ leaves script (first ∷ later) lent)
+  pub not-all-at-the-first-step : ((img lent later : List ℕ) (first : ℕ) → check (length lent) img ≡ Accepted → leaves img (first ∷ []) lent ≡ leaves img (first ∷ later) lent)
       → ⊥
   not-all-at-the-first-step all =
       let e : after (0 ∷ []) ≡ after (0 ∷ 0 ∷ []) =

@@ -13,10 +13,10 @@ use borrow.Author.Tests.{le-leb, lt-leb, leb-true, leb-false}
 use Rattle.rules.specs.declared.Chain.the-variants.{Empty}
 use Rattle.rules.specs.declared.End.the-variants.{UsedUp, Stopped}
 use Rattle.rules.specs.declared.Stop.the-variants.{Full}
-use Rattle.rules.specs.Control.{Control, parts, opened, Outcome, goesTo, stops}
-use Rattle.rules.specs.Step.{fits, Machine, step, miniOO}
-use Rattle.rules.specs.Run.{Ran, ran, onward, runFrom, run, runScript, begins}
-use Rattle.rules.specs.Script.{scriptOf, rootOf}
+use Rattle.rules.specs.Control.{Control, parts, fits, opened, Outcome, goesTo, stops}
+use Rattle.rules.specs.Step.{Machine, step}
+use Rattle.rules.specs.Run.{Ran, ran, onward, runFrom, run, begins, machine, start, runScript}
+use Rattle.rules.specs.Script.{rootOf}
 use Rattle.rules.specs.declared.Verdict.{Verdict}
 use Rattle.rules.specs.declared.Verdict.the-variants.{Accepted, Refused}
 use Rattle.rules.specs.Refusals.{check}
@@ -57,19 +57,19 @@ module _ {S E : Type 0} (m : Machine S E) where
   unfolding run ran begins
   whole s root cs = begun s (opened (m .cmdAt root) Empty) (fits (some (opened (m .cmdAt root) Empty))) cs _
 
-pub last-step : (script choices : List ℕ) → Leaves (runScript script (take (runScript script choices .steps) choices)) (runScript script choices)
+pub last-step : (img choices : List ℕ) → Leaves (runScript img (take (runScript img choices .steps) choices)) (runScript img choices)
 unfolding runScript
-last-step script choices = whole (miniOO (scriptOf script)) empty (rootOf script) choices
+last-step img choices = whole (machine img) empty (rootOf img) choices
 
 words : (v : Verdict) (a b : Ran Store) (lent : List ℕ) → Leaves a b → wordsAfterRun v b lent ≡ wordsAfterRun v a lent
 unfolding wordsAfterRun
 words Accepted a b lent l = rw (l .store, l .control)
 words (Refused k p) a b lent l = refl
 
-pub last-words : (script choices lent : List ℕ) → wordsAfter script choices lent ≡ wordsAfter script (take (runScript script choices .steps) choices) lent
+pub last-words : (img choices lent : List ℕ) → wordsAfter img choices lent ≡ wordsAfter img (take (runScript img choices .steps) choices) lent
 unfolding wordsAfter
-last-words script choices lent =
-    words (check (length lent) script) (runScript script (take (runScript script choices .steps) choices)) (runScript script choices) lent (last-step script choices)
+last-words img choices lent =
+    words (check (length lent) img) (runScript img (take (runScript img choices .steps) choices)) (runScript img choices) lent (last-step img choices)
 
 -- a count is within a limit, or past it
 pub fits-or-not : (count limit : ℕ) → (count ≤ limit) ⊎ (limit < count)
@@ -80,28 +80,25 @@ fits-or-not count limit = go (leb count limit) refl
     go false e = inr (leb-false _ _ e)
 
 -- a root that is too large as opened: no step, and nothing is left
-pub too-large : (script choices : List ℕ) → mostParts < parts (begins (miniOO (scriptOf script)) (rootOf script))
-    → runScript script choices ≡ ran (Stopped (Full 3)) 0 empty none
+pub too-large : (img choices : List ℕ) → mostParts < parts (start img)
+    → runScript img choices ≡ ran (Stopped (Full 3)) 0 empty none
 unfolding runScript run fits begins
-too-large script choices h =
-    let z : leb (parts (begins (miniOO (scriptOf script)) (rootOf script))) mostParts ≡ false =
-    lt-leb (parts (begins (miniOO (scriptOf script)) (rootOf script))) mostParts h in
+too-large img choices h =
+    let z : leb (parts (start img)) mostParts ≡ false = lt-leb (parts (start img)) mostParts h in
     rw z
 
 -- the state that a run leaves is reached from the start by its first choices, one step each (`Left`: those used, the rest, and the count)
-pub reached : (script choices : List ℕ) → parts (begins (miniOO (scriptOf script)) (rootOf script)) ≤ mostParts
-    → Left (miniOO (scriptOf script)) choices 0 empty (some (begins (miniOO (scriptOf script)) (rootOf script))) (runScript script choices)
+pub reached : (img choices : List ℕ) → parts (start img) ≤ mostParts
+    → Left (machine img) choices 0 empty (some (start img)) (runScript img choices)
 unfolding runScript run fits begins
-reached script choices h =
-    let z : leb (parts (begins (miniOO (scriptOf script)) (rootOf script))) mostParts ≡ true =
-    le-leb (parts (begins (miniOO (scriptOf script)) (rootOf script))) mostParts h in
-    rw z (run-leaves (miniOO (scriptOf script)) choices 0 empty (some (begins (miniOO (scriptOf script)) (rootOf script))))
+reached img choices h =
+    let z : leb (parts (start img)) mostParts ≡ true = le-leb (parts (start img)) mostParts h in
+    rw z (run-leaves (machine img) choices 0 empty (some (start img)))
 
 -- before the first choice: no frame, no object, and the root opened
-pub started : (script : List ℕ) → parts (begins (miniOO (scriptOf script)) (rootOf script)) ≤ mostParts
-    → runScript script [] ≡ ran UsedUp 0 empty (some (begins (miniOO (scriptOf script)) (rootOf script)))
+pub started : (img : List ℕ) → parts (start img) ≤ mostParts
+    → runScript img [] ≡ ran UsedUp 0 empty (some (start img))
 unfolding runScript run runFrom fits begins
-started script h =
-    let z : leb (parts (begins (miniOO (scriptOf script)) (rootOf script))) mostParts ≡ true =
-    le-leb (parts (begins (miniOO (scriptOf script)) (rootOf script))) mostParts h in
+started img h =
+    let z : leb (parts (start img)) mostParts ≡ true = le-leb (parts (start img)) mostParts h in
     rw z

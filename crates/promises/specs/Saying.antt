@@ -5,13 +5,11 @@ use mathlib.Core.Path.{_≡_}
 use mathlib.Core.Option.{Option}
 use mathlib.Core.List.{List, [], _∷_, _++_}
 use Rattle.rules.specs.declared.Answer.{Answer}
-use Rattle.rules.specs.declared.Effect.{Effect}
 use Rattle.rules.specs.State.{Store, empty}
-use Rattle.rules.specs.Script.{scriptOf, rootOf}
+use Rattle.rules.specs.Script.{rootOf}
 use Rattle.rules.specs.Refusals.{check}
 use Rattle.rules.specs.Control.{Control}
-use Rattle.rules.specs.Step.{Machine, miniOO}
-use Rattle.rules.specs.Run.{begins}
+use Rattle.rules.specs.Run.{machine}
 use Rattle.rules.specs.Numbers.{verdictNumbers, refusedWith, endedWith, answerNumbers}
 use Rattle.safety.specs.Reaches as Reaches
 use Rattle.safety.specs.Reaches.{Moment}
@@ -26,22 +24,15 @@ Ends a e values n = answerNumbers a ≡ endedWith (e ∷ (values ++ (n ∷ [])))
 
 -- with so many words for a run, `check` gives no refusal
 abbrev pub Accepts : ℕ → List ℕ → Type 0
-Accepts words script = verdictNumbers (check words script) ≡ []
-
--- the machine of the rules for a script, and the control that it begins with: the root, opened, with no frame
-abbrev pub rules : List ℕ → Machine Store Effect
-rules script = miniOO (scriptOf script)
-
-abbrev pub start : List ℕ → Control
-start script = begins (rules script) (rootOf script)
+Accepts words img = verdictNumbers (check words img) ≡ []
 
 -- the start needs no part past the limit; or it does
 abbrev pub StartFits : List ℕ → Type 0
-StartFits script = Reaches.StartFits (rules script) (rootOf script)
+StartFits img = Reaches.StartFits (machine img) (rootOf img)
 
 abbrev pub StartTooLarge : List ℕ → Type 0
-StartTooLarge script = Reaches.StartTooLarge (rules script) (rootOf script)
+StartTooLarge img = Reaches.StartTooLarge (machine img) (rootOf img)
 
 -- a moment of the run, from the start to the stop: this store, and this control
 abbrev pub At : List ℕ → List ℕ → Store → Option Control → Type 0
-At script choices s o = Moment (rules script) empty (rootOf script) choices s o
+At img choices s o = Moment (machine img) empty (rootOf img) choices s o

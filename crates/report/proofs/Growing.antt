@@ -27,27 +27,27 @@ rows-more (x ∷ rs) k r =
     rw (add-suc k (length rs), ← suc-add k (length rs))
     (under (rowLine k x) _ (flatten (rowLines (suc k) rs)) (rowLine (suc k + length rs) r) (rows-more rs (suc k) r))
 
-module _ (bytes : List ℕ) where
+module _ (img : List ℕ) where
   pub cells-more : (fs : List Frame) (k : ℕ) (f : Frame)
-      → flatten (cellLines bytes k (fs ++ (f ∷ []))) ≡ flatten (cellLines bytes k fs) ++ cellLine bytes (k + length fs) f
+      → flatten (cellLines img k (fs ++ (f ∷ []))) ≡ flatten (cellLines img k fs) ++ cellLine img (k + length fs) f
   unfolding cellLines flatten
   cells-more [] k f = rw (add-zero k, append-nil)
   cells-more (x ∷ fs) k f =
       rw (add-suc k (length fs), ← suc-add k (length fs))
-      (under (cellLine bytes k x) _ (flatten (cellLines bytes (suc k) fs)) (cellLine bytes (suc k + length fs) f) (cells-more fs (suc k) f))
+      (under (cellLine img k x) _ (flatten (cellLines img (suc k) fs)) (cellLine img (suc k + length fs) f) (cells-more fs (suc k) f))
 
   pub fields-more : (vs : List Value) (o i : ℕ) (v : Value)
-      → flatten (fieldLines bytes o i (vs ++ (v ∷ []))) ≡ flatten (fieldLines bytes o i vs) ++ fieldLine bytes o (i + length vs) v
+      → flatten (fieldLines img o i (vs ++ (v ∷ []))) ≡ flatten (fieldLines img o i vs) ++ fieldLine img o (i + length vs) v
   unfolding fieldLines flatten
   fields-more [] o i v = rw (add-zero i, append-nil)
   fields-more (x ∷ vs) o i v =
       rw (add-suc i (length vs), ← suc-add i (length vs))
-      (under (fieldLine bytes o i x) _ (flatten (fieldLines bytes o (suc i) vs)) (fieldLine bytes o (suc i + length vs) v) (fields-more vs o (suc i) v))
+      (under (fieldLine img o i x) _ (flatten (fieldLines img o (suc i) vs)) (fieldLine img o (suc i + length vs) v) (fields-more vs o (suc i) v))
 
   pub objects-more : (os : List (List Value)) (o : ℕ) (vs : List Value)
-      → flatten (objectLines bytes o (os ++ (vs ∷ []))) ≡ flatten (objectLines bytes o os) ++ flatten (fieldLines bytes (o + length os) 0 vs)
+      → flatten (objectLines img o (os ++ (vs ∷ []))) ≡ flatten (objectLines img o os) ++ flatten (fieldLines img (o + length os) 0 vs)
   unfolding objectLines flatten
   objects-more [] o vs = rw (add-zero o, append-nil)
   objects-more (x ∷ os) o vs =
-      rw (add-suc o (length os), ← suc-add o (length os), flatten-append (fieldLines bytes o 0 x) (objectLines bytes (suc o) (os ++ (vs ∷ []))), flatten-append (fieldLines bytes o 0 x) (objectLines bytes (suc o) os))
-      (under (flatten (fieldLines bytes o 0 x)) _ (flatten (objectLines bytes (suc o) os)) (flatten (fieldLines bytes (suc o + length os) 0 vs)) (objects-more os (suc o) vs))
+      rw (add-suc o (length os), ← suc-add o (length os), flatten-append (fieldLines img o 0 x) (objectLines img (suc o) (os ++ (vs ∷ []))), flatten-append (fieldLines img o 0 x) (objectLines img (suc o) os))
+      (under (flatten (fieldLines img o 0 x)) _ (flatten (objectLines img (suc o) os)) (flatten (fieldLines img (suc o + length os) 0 vs)) (objects-more os (suc o) vs))

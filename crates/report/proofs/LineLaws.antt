@@ -57,25 +57,25 @@ module _ (r : ℕ) (d o : List ℕ) (room : 128 ≤ length d) where
       (both-wrote 21 22 p₄ p₅ r (pair [] x) (last [] y) o₄ o₅ o w₅ w₆)))))
       refl (omega arith)
 
-  module _ (s : List ℕ) where
+  module _ (img : List ℕ) where
     pub cell-wrote : (k p q : ℕ) (f : Frame) (e u : List ℕ) → Wrote 25 d 0 (pair (ascii "cell") k) p e
         → Wrote 26 e p (pair (ascii " name") (f .name)) q u
-        → Wrote 48 u q (further (valueWords s (f .cell))) r o
-        → Line 128 (cellLine s k f) d r o
+        → Wrote 48 u q (further (valueWords img (f .cell))) r o
+        → Line 128 (cellLine img k f) d r o
     unfolding cellLine line further
     cell-wrote k p q f e u v w x =
-        line-as 99 (pair (ascii "cell") k ++ (pair (ascii " name") (f .name) ++ further (valueWords s (f .cell)))) (cellLine s k f)
-        (both-wrote 25 74 0 p r (pair (ascii "cell") k) (pair (ascii " name") (f .name) ++ further (valueWords s (f .cell))) d e o v
-        (both-wrote 26 48 p q r (pair (ascii " name") (f .name)) (further (valueWords s (f .cell))) e u o w x))
+        line-as 99 (pair (ascii "cell") k ++ (pair (ascii " name") (f .name) ++ further (valueWords img (f .cell)))) (cellLine img k f)
+        (both-wrote 25 74 0 p r (pair (ascii "cell") k) (pair (ascii " name") (f .name) ++ further (valueWords img (f .cell))) d e o v
+        (both-wrote 26 48 p q r (pair (ascii " name") (f .name)) (further (valueWords img (f .cell))) e u o w x))
         refl (omega arith)
 
-    pub field-wrote : (n i c p q : ℕ) (v : Value) (e u : List ℕ) → c ≡ codeAt s i → Wrote 27 d 0 (pair (ascii "object") n) p e
+    pub field-wrote : (n i c p q : ℕ) (v : Value) (e u : List ℕ) → c ≡ codeAt img i → Wrote 27 d 0 (pair (ascii "object") n) p e
         → Wrote 27 e p (pair (ascii " field") c) q u
-        → Wrote 48 u q (further (valueWords s v)) r o
-        → Line 128 (fieldLine s n i v) d r o
+        → Wrote 48 u q (further (valueWords img v)) r o
+        → Line 128 (fieldLine img n i v) d r o
     unfolding fieldLine line further
     field-wrote n i c p q v e u h a b x =
-        line-as 102 (pair (ascii "object") n ++ (pair (ascii " field") c ++ further (valueWords s v))) (fieldLine s n i v)
-        (both-wrote 27 75 0 p r (pair (ascii "object") n) (pair (ascii " field") c ++ further (valueWords s v)) d e o a
-        (both-wrote 27 48 p q r (pair (ascii " field") c) (further (valueWords s v)) e u o b x))
+        line-as 102 (pair (ascii "object") n ++ (pair (ascii " field") c ++ further (valueWords img v))) (fieldLine img n i v)
+        (both-wrote 27 75 0 p r (pair (ascii "object") n) (pair (ascii " field") c ++ further (valueWords img v)) d e o a
+        (both-wrote 27 48 p q r (pair (ascii " field") c) (further (valueWords img v)) e u o b x))
         (rw h) (omega arith)

@@ -37,50 +37,50 @@ module _ (at r : ℕ) (d o : List ℕ) where
   unfolding further
   proc-wrote n ch q e v w = both-wrote 26 22 at q r (pair (ascii " proc") n) (further (chainWord ch ∷ [])) d e o v w
 
-  module _ (s : List ℕ) where
-    pub field-wrote : (f c : ℕ) → c ≡ codeOf s f → Wrote 28 d at (last (ascii " field") c) r o
-        → Wrote 28 d at (further (valueWords s (Field f))) r o
+  module _ (img : List ℕ) where
+    pub field-wrote : (f c : ℕ) → c ≡ codeOf img f → Wrote 28 d at (last (ascii " field") c) r o
+        → Wrote 28 d at (further (valueWords img (Field f))) r o
     unfolding further valueWords
     field-wrote f c e w =
-        wrote-as 28 28 at r (last (ascii " field") c) (further (valueWords s (Field f))) d o w
+        wrote-as 28 28 at r (last (ascii " field") c) (further (valueWords img (Field f))) d o w
         (ap (λ (n : ℕ). last (ascii " field") n) e) (omega arith)
 
     -- each kind of value
-    by-kind : (m : ℕ) (v w : Value) (t : List ℕ) → v ≡ w → Wrote m d at t r o → t ≡ further (valueWords s w) → m ≤ 48
-        → Wrote 48 d at (further (valueWords s v)) r o
+    by-kind : (m : ℕ) (v w : Value) (t : List ℕ) → v ≡ w → Wrote m d at t r o → t ≡ further (valueWords img w) → m ≤ 48
+        → Wrote 48 d at (further (valueWords img v)) r o
     by-kind m v w t e x i l =
-        wrote-as m 48 at r t (further (valueWords s v)) d o x (i ∙ ap (λ (u : Value). further (valueWords s u)) (sym e)) l
+        wrote-as m 48 at r t (further (valueWords img v)) d o x (i ∙ ap (λ (u : Value). further (valueWords img u)) (sym e)) l
 
-    pub value-nothing : (v : Value) → v ≡ Nothing → Wrote 1 d at (ascii "\n") r o → Wrote 48 d at (further (valueWords s v)) r o
+    pub value-nothing : (v : Value) → v ≡ Nothing → Wrote 1 d at (ascii "\n") r o → Wrote 48 d at (further (valueWords img v)) r o
     unfolding further valueWords
     value-nothing v e w = by-kind 1 v Nothing (ascii "\n") e w refl (omega arith)
 
-    pub value-null : (v : Value) → v ≡ Null → Wrote 6 d at (ascii " null\n") r o → Wrote 48 d at (further (valueWords s v)) r o
+    pub value-null : (v : Value) → v ≡ Null → Wrote 6 d at (ascii " null\n") r o → Wrote 48 d at (further (valueWords img v)) r o
     unfolding further valueWords
     value-null v e w = by-kind 6 v Null (ascii " null\n") e w refl (omega arith)
 
     pub value-int : (v : Value) (b : ℕ) → v ≡ Int b → Wrote 27 d at (further (ascii "int" ∷ signed (toZ w32 b) ∷ [])) r o
-        → Wrote 48 d at (further (valueWords s v)) r o
+        → Wrote 48 d at (further (valueWords img v)) r o
     unfolding further valueWords
     value-int v b e w = by-kind 27 v (Int b) (further (ascii "int" ∷ signed (toZ w32 b) ∷ [])) e w refl (omega arith)
 
-    pub value-field : (v : Value) (f : ℕ) → v ≡ Field f → Wrote 28 d at (further (valueWords s (Field f))) r o
-        → Wrote 48 d at (further (valueWords s v)) r o
-    value-field v f e w = by-kind 28 v (Field f) (further (valueWords s (Field f))) e w refl (omega arith)
+    pub value-field : (v : Value) (f : ℕ) → v ≡ Field f → Wrote 28 d at (further (valueWords img (Field f))) r o
+        → Wrote 48 d at (further (valueWords img v)) r o
+    value-field v f e w = by-kind 28 v (Field f) (further (valueWords img (Field f))) e w refl (omega arith)
 
     pub value-object : (v : Value) (n : ℕ) → v ≡ Object n → Wrote 29 d at (last (ascii " object") n) r o
-        → Wrote 48 d at (further (valueWords s v)) r o
+        → Wrote 48 d at (further (valueWords img v)) r o
     unfolding further valueWords
     value-object v n e w = by-kind 29 v (Object n) (last (ascii " object") n) e w refl (omega arith)
 
     pub value-proc : (v : Value) (n : ℕ) (ch : Chain) → v ≡ Proc n ch
         → Wrote 48 d at (further (ascii "proc" ∷ decimal n ∷ chainWord ch ∷ [])) r o
-        → Wrote 48 d at (further (valueWords s v)) r o
+        → Wrote 48 d at (further (valueWords img v)) r o
     unfolding further valueWords
     value-proc v n ch e w =
         by-kind 48 v (Proc n ch) (further (ascii "proc" ∷ decimal n ∷ chainWord ch ∷ [])) e w refl (omega arith)
 
     pub value-fault : (v : Value) (k : ℕ) → v ≡ Fault k → Wrote 28 d at (last (ascii " fault") k) r o
-        → Wrote 48 d at (further (valueWords s v)) r o
+        → Wrote 48 d at (further (valueWords img v)) r o
     unfolding further valueWords
     value-fault v k e w = by-kind 28 v (Fault k) (last (ascii " fault") k) e w refl (omega arith)

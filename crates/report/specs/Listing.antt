@@ -65,8 +65,8 @@ refusedLine k p = line (ascii "refused" ∷ decimal k ∷ ascii "at" ∷ decimal
 
 -- the attribute code of a field index, which counts from 1; index 0 is no field
 unfoldable pub codeOf : List ℕ → ℕ → ℕ
-codeOf bytes zero = 0
-codeOf bytes (suc i) = codeAt bytes i
+codeOf img zero = 0
+codeOf img (suc i) = codeAt img i
 
 unfoldable pub chainWord : Chain → List ℕ
 chainWord Empty = ascii "none"
@@ -74,18 +74,18 @@ chainWord (From k) = decimal k
 
 -- `Nothing` is no value: no word
 unfoldable pub valueWords : List ℕ → Value → List (List ℕ)
-valueWords bytes Nothing = []
-valueWords bytes Null = ascii "null" ∷ []
-valueWords bytes (Int b) = ascii "int" ∷ signed (toZ w32 b) ∷ []
-valueWords bytes (Field f) = ascii "field" ∷ decimal (codeOf bytes f) ∷ []
-valueWords bytes (Object o) = ascii "object" ∷ decimal o ∷ []
-valueWords bytes (Proc n ch) = ascii "proc" ∷ decimal n ∷ chainWord ch ∷ []
-valueWords bytes (Fault k) = ascii "fault" ∷ decimal k ∷ []
+valueWords img Nothing = []
+valueWords img Null = ascii "null" ∷ []
+valueWords img (Int b) = ascii "int" ∷ signed (toZ w32 b) ∷ []
+valueWords img (Field f) = ascii "field" ∷ decimal (codeOf img f) ∷ []
+valueWords img (Object o) = ascii "object" ∷ decimal o ∷ []
+valueWords img (Proc n ch) = ascii "proc" ∷ decimal n ∷ chainWord ch ∷ []
+valueWords img (Fault k) = ascii "fault" ∷ decimal k ∷ []
 
-module _ (bytes : List ℕ) where
+module _ (img : List ℕ) where
   -- frame k
   unfoldable pub cellLine : ℕ → Frame → List ℕ
-  cellLine k f = line (ascii "cell" ∷ decimal k ∷ ascii "name" ∷ decimal (f .name) ∷ valueWords bytes (f .cell))
+  cellLine k f = line (ascii "cell" ∷ decimal k ∷ ascii "name" ∷ decimal (f .name) ∷ valueWords img (f .cell))
 
   unfoldable pub cellLines : ℕ → List Frame → List (List ℕ)
   cellLines k [] = []
@@ -93,7 +93,7 @@ module _ (bytes : List ℕ) where
 
   -- object o, the field at position i from 0
   unfoldable pub fieldLine : ℕ → ℕ → Value → List ℕ
-  fieldLine o i v = line (ascii "object" ∷ decimal o ∷ ascii "field" ∷ decimal (codeAt bytes i) ∷ valueWords bytes v)
+  fieldLine o i v = line (ascii "object" ∷ decimal o ∷ ascii "field" ∷ decimal (codeAt img i) ∷ valueWords img v)
 
   unfoldable pub fieldLines : ℕ → ℕ → List Value → List (List ℕ)
   fieldLines o i [] = []
@@ -125,10 +125,10 @@ linesBy (Refused k p) ls = refusedLine k p ∷ []
 
 -- the lines for a script and choices, with a workspace of the right size
 unfoldable pub listingLines : List ℕ → List ℕ → List (List ℕ)
-listingLines bytes cs = linesBy (check size bytes) (runLines bytes (rowsOf bytes cs) (runScript bytes cs))
+listingLines img cs = linesBy (check size img) (runLines img (rowsOf img cs) (runScript img cs))
 
 unfoldable pub listing : List ℕ → List ℕ → List ℕ
-listing bytes cs = flatten (listingLines bytes cs)
+listing img cs = flatten (listingLines img cs)
 
 unfoldable pub mostChoices : ℕ
 mostChoices = 4096
@@ -136,5 +136,5 @@ mostChoices = 4096
 -- a missing file is tested first, then the number of choices, then the script
 unfoldable pub printed : Option (List ℕ) → Option (List ℕ) → List ℕ
 printed none cs = noInput
-printed (some bytes) none = noInput
-printed (some bytes) (some cs) = cond (leb (length cs) mostChoices) (listing bytes cs) choicesTooLong
+printed (some img) none = noInput
+printed (some img) (some cs) = cond (leb (length cs) mostChoices) (listing img cs) choicesTooLong

@@ -14,12 +14,13 @@ use Rattle.rules.specs.declared.Next.{Next}
 use Rattle.rules.specs.declared.Next.the-variants.{Enters}
 use Rattle.rules.specs.declared.Stop.{Stop}
 use Rattle.rules.specs.declared.Stop.the-variants.{Full, OutOfRange}
-use Rattle.rules.specs.Control.{Control, entered, opened, Move, move, movable, Outcome, goesTo, stops}
-use Rattle.rules.specs.Step.{remains, put, fits, Machine, Plan, does, refuses, judged, chosen, plan, follow, step}
+use Rattle.rules.specs.Control.{Control, fits, entered, opened, Move, move, movable, Outcome, goesTo, stops}
+use Rattle.rules.specs.Step.{remains, put, Machine, Plan, does, refuses, judged, chosen, plan, follow, step}
 use Rattle.safety.specs.Inside.{Nested}
 use Rattle.rules.proofs.Around.{Around, plug, fill, Quiet}
 use Rattle.safety.specs.Reaches.{Reaches, stays, goes}
-use Rattle.safety.specs.Atoms.{EntersBlock, OnlyBlock, still-inside, was-left, Sealed}
+use Rattle.safety.specs.Atoms.{Becomes, OnlyBlock, still-inside, was-left, Sealed}
+use Rattle.safety.proofs.Becoming.{put-becomes}
 use Rattle.safety.proofs.Focus.{Focus, focus}
 use Rattle.safety.proofs.AtomsInside.{moves-inside, puts-inside, fill-some, fits-inside}
 
@@ -90,65 +91,81 @@ module _ {S E : Type 0} (m : Machine S E) where
 
   -- ---- a run since the block was entered
 
-  -- what is known of the choices after a step of the inside, with that step
-  on-after : (C : Around) (u v : Control) (i : ℕ) (cs : List ℕ)
-      → (s s₁ s′ : S) (o′ : Option Control)
-      → step m s u i ≡ goesTo s₁ (some v)
-      → OnlyBlock m C v cs s₁ s′ o′
-      → OnlyBlock m C u (i ∷ cs) s s′ o′
-  on-after C u v i cs s s₁ s′ o′ e (still-inside x) =
-      still-inside (record { inner = x .inner; alone = goes e (x .alone); stands = x .stands; others-wait = x .others-wait })
-  on-after C u v i cs s s₁ s′ o′ e (was-left x) =
-      was-left
-      (
-      record {
-        first = i ∷ x .first;
-        later = x .later;
-        is = ap (λ l. i ∷ l) (x .is);
-        store = x .store;
-        alone = goes e (x .alone);
-        control = x .control;
-        closed = x .closed;
-        on = x .on;
-      }
-      )
+  module _ (t₀ : Control) (i₀ : ℕ) where
+    -- what is known of the choices after a step of the inside, with that step
+    on-after : (u v : Control) (i : ℕ) (cs : List ℕ)
+        → (s s₁ s′ : S) (o′ : Option Control)
+        → step m s u i ≡ goesTo s₁ (some v)
+        → OnlyBlock m t₀ i₀ v cs s₁ s′ o′
+        → OnlyBlock m t₀ i₀ u (i ∷ cs) s s′ o′
+    on-after u v i cs s s₁ s′ o′ e (still-inside x) =
+        still-inside (record { inner = x .inner; alone = goes e (x .alone); control = x .control; is = x .is; stands = x .stands; others-wait = x .others-wait })
+    on-after u v i cs s s₁ s′ o′ e (was-left x) =
+        was-left
+        (
+        record {
+          first = i ∷ x .first;
+          later = x .later;
+          is = ap (λ l. i ∷ l) (x .is);
+          store = x .store;
+          alone = goes e (x .alone);
+          control = x .control;
+          closed = x .closed;
+          on = x .on;
+        }
+        )
 
-  pub atom-run : (C : Around)
-      → Quiet C
-      → (s′ : S) (o′ : Option Control) (cs : List ℕ) (s : S) (o : Option Control)
-      → Reaches m s′ o′ cs s o
-      → (u : Control)
-      → o ≡ some (plug C (entered u))
-      → OnlyBlock m C u cs s s′ o′
-  atom-run C q s′ o′ _ _ _ stays u e =
-      still-inside (record { inner = u; alone = stays; stands = e; others-wait = moves-inside C u q })
-  atom-run C q s′ o′ _ _ _ (goes {i = i} {cs = cs} {s = s} {t = t} {s₁ = s₁} {o = o} e r) u x =
-      let w : t ≡ plug C (entered u) = Option·some-injective t (plug C (entered u)) x in
-      let y : Inner C u s i s₁ o = atom-step C u s i s₁ o q (subst (λ z. step m s z i ≡ goesTo s₁ o) w e) in
-      go (y .rest) (y .alone) (y .whole) (λ v. atom-run C q s′ o′ cs s₁ o r v)
-    where
-      go : (p : Option Control)
-          → step m s u i ≡ goesTo s₁ p
-          → o ≡ fill (m .cmdAt) C (Option·map entered p)
-          → ((v : Control) → o ≡ some (plug C (entered v)) → OnlyBlock m C v cs s₁ s′ o′)
-          → OnlyBlock m C u (i ∷ cs) s s′ o′
-      go none a c f =
-          was-left
+    -- C is what stands around the place of the command that entered
+    module _ (C : Around) (q : Quiet C) (place : (p : Option Control) → Becomes (m .cmdAt) t₀ i₀ p (fill (m .cmdAt) C p)) where
+      pub atom-run : (s′ : S) (o′ : Option Control) (cs : List ℕ) (s : S) (o : Option Control)
+          → Reaches m s′ o′ cs s o
+          → (u : Control)
+          → o ≡ some (plug C (entered u))
+          → OnlyBlock m t₀ i₀ u cs s s′ o′
+      atom-run s′ o′ _ _ _ stays u e =
+          still-inside
           (
           record {
-            first = i ∷ [];
-            later = cs;
-            is = refl;
-            store = s₁;
-            alone = goes a stays;
-            control = o;
-            closed = c;
-            on = r;
+            inner = u;
+            alone = stays;
+            control = plug C (entered u);
+            is = e;
+            stands = subst (Becomes (m .cmdAt) t₀ i₀ (some (entered u))) (fill-some (m .cmdAt) C (entered u)) (place (some (entered u)));
+            others-wait = moves-inside C u q;
           }
           )
-      go (some v) a c f = on-after C u v i cs s s₁ s′ o′ a (f v (c ∙ fill-some (m .cmdAt) C (entered v)))
+      atom-run s′ o′ _ _ _ (goes {i = i} {cs = cs} {s = s} {t = t} {s₁ = s₁} {o = o} e r) u x =
+          let w : t ≡ plug C (entered u) = Option·some-injective t (plug C (entered u)) x in
+          let y : Inner C u s i s₁ o = atom-step C u s i s₁ o q (subst (λ z. step m s z i ≡ goesTo s₁ o) w e) in
+          go (y .rest) (y .alone) (y .whole) (λ v. atom-run s′ o′ cs s₁ o r v)
+        where
+          go : (p : Option Control)
+              → step m s u i ≡ goesTo s₁ p
+              → o ≡ fill (m .cmdAt) C (Option·map entered p)
+              → ((v : Control) → o ≡ some (plug C (entered v)) → OnlyBlock m t₀ i₀ v cs s₁ s′ o′)
+              → OnlyBlock m t₀ i₀ u (i ∷ cs) s s′ o′
+          go none a c f =
+              was-left
+              (
+              record {
+                first = i ∷ [];
+                later = cs;
+                is = refl;
+                store = s₁;
+                alone = goes a stays;
+                control = o;
+                closed = subst (Becomes (m .cmdAt) t₀ i₀ none) (sym c) (place none);
+                on = r;
+              }
+              )
+          go (some v) a c f = on-after u v i cs s s₁ s′ o′ a (f v (c ∙ fill-some (m .cmdAt) C (entered v)))
 
   -- ---- the step that enters a block
+
+  -- with choice i, control t enters the block whose inside is the command at node n, in the chain ch
+  pub record EntersBlock (s : S) (t : Control) (i n : ℕ) (ch : Chain) : Type 0 where
+    pub effect : E
+    pub plans : plan m s t i ≡ does effect (Enters n ch)
 
   -- a plan is of a movable command
   pub record Picks (t : Control) (i : ℕ) : Type 0 where
@@ -167,7 +184,7 @@ module _ {S E : Type 0} (m : Machine S E) where
   -- From the step that enters a block to the step that leaves it, only that block moves.
   pub only-that-block-moves : (s : S) (t : Control) (i n : ℕ) (ch : Chain)
       → Nested t
-      → EntersBlock m s t i n ch
+      → EntersBlock s t i n ch
       → (s₁ : S) (o₁ : Option Control)
       → step m s t i ≡ goesTo s₁ o₁
       → Sealed m t i n ch s₁ o₁
@@ -181,11 +198,6 @@ module _ {S E : Type 0} (m : Machine S E) where
       let k : put (m .cmdAt) t i (some (entered u)) ≡ o₁ = cc in
       let w : o₁ ≡ some (plug (f .around) (entered u)) =
       sym k ∙ f .filled (some (entered u)) ∙ fill-some (m .cmdAt) (f .around) (entered u) in
-      record {
-        node = p .node;
-        chain = p .chain;
-        picks = p .is;
-        around = f .around;
-        stood = f .is;
-        only = λ cs s′ o′ r. atom-run (f .around) (f .quiet) s′ o′ cs s₁ o₁ r u w;
-      }
+      let place : (a : Option Control) → Becomes (m .cmdAt) t i a (fill (m .cmdAt) (f .around) a) =
+      λ a. subst (Becomes (m .cmdAt) t i a) (f .filled a) (put-becomes (m .cmdAt) t i a (p .node) (p .chain) (p .is)) in
+      λ cs s′ o′ r. atom-run t i (f .around) (f .quiet) place s′ o′ cs s₁ o₁ r u w

@@ -3,7 +3,7 @@
 -- after them the neighbour stands alone. An atom to the right is entered by choice 1, and its neighbour waits too. And
 -- of two nested atoms the inner one is the innermost. Assumes nothing.
 use Prim.Native.Nat.{ℕ, zero, suc}
-use mathlib.Core.Path.{_≡_, refl, subst}
+use mathlib.Core.Path.{_≡_, refl}
 use mathlib.Core.Option.{Option, none, some, Option·none-ne-some}
 use mathlib.Core.List.{[], _∷_}
 use native.Mathlib.Omega.{arith}
@@ -13,7 +13,7 @@ use Rattle.rules.specs.declared.Value.the-variants.{Null, Int}
 use Rattle.rules.specs.declared.Effect.{Effect}
 use Rattle.rules.specs.State.{Store, frame}
 use Rattle.rules.specs.Control.{Control, command, followed, beside, entered, atomIn, move, movable}
-use Rattle.rules.proofs.Around.{Around, here, afterIt, leftOf, rightOf, inside, plug, fill}
+use Rattle.rules.specs.Paper.{leftMoves, the-command, left-goes-on, left-ends}
 use Rattle.rules.specs.Step.{Machine, miniOO}
 use Rattle.rules.specs.Script.{scriptOf}
 use Rattle.rules.specs.Run.{runScript}
@@ -21,11 +21,12 @@ use Rattle.rules.proofs.Opens.{opens}
 use Rattle.rules.proofs.Cases.{inAtom}
 use Rattle.rules.proofs.CasesControl.{nestedAtoms, rightAtom}
 use Rattle.safety.specs.Reaches.{Reaches, stays, goes}
-use Rattle.safety.specs.Atoms.{Innermost, Sealed, AtomMoves}
+use Rattle.safety.specs.Atoms.{Innermost, Becomes, Sealed, AtomMoves}
+use Rattle.safety.specs.Inside.{is-entered, in-left, in-entered}
 use Rattle.safety.proofs.AtomsNodes.{only-that-atom-moves}
-use Rattle.safety.proofs.AtomsInnermost.{innermost-once, never-the-outer}
-use Rattle.safety.proofs.AtomsUsed.{moved, no-other-moves, block-moves, block-left, atom-stood}
-use Rattle.safety.proofs.NotVacuous.{framesOnly, h-atom-moves, h-sealed}
+use Rattle.safety.proofs.Entered.{innermost-once, never-the-outer}
+use Rattle.safety.proofs.AtomsUsed.{moved, block-stands, no-other-moves, block-moves, block-left}
+use Rattle.safety.proofs.NotVacuous.{framesOnly, h-sealed}
 
 -- the one frame, with its cell x
 abbrev holding : ℕ → Store
@@ -54,28 +55,10 @@ block = followed (at 5) 9 (From 0)
 abbrev after : Control
 after = beside (entered block) (at 14)
 
--- the block stands where the atom stood, to the left of its neighbour
-alone-at : (C : Around) (n k : ℕ) → at n ≡ plug C (at k) → (C ≡ here) × (n ≡ k)
-unfolding plug
-alone-at here n k e = (refl, cc)
-alone-at (afterIt C m ch) n k e = (cc, cc)
-alone-at (leftOf C r) n k e = (cc, cc)
-alone-at (rightOf l C) n k e = (cc, cc)
-alone-at (inside C) n k e = (cc, cc)
-
-left-of : (C : Around) → before ≡ plug C (at 11) → C ≡ leftOf here (at 14)
-unfolding plug
-left-of here e = cc
-left-of (afterIt C n ch) e = cc
-left-of (leftOf C r) e = let x : C ≡ here = alone-at C 11 11 (cc) .0 in cc
-left-of (rightOf l C) e = absurd (omega (arith, alone-at C 14 11 (cc) .1))
-left-of (inside C) e = cc
-
-h-place : h-sealed .around ≡ leftOf here (at 14)
-unfolding h-atom-moves
-h-place =
-    left-of (h-sealed .around)
-    (atom-stood (scriptOf inAtom) before 0 10 (From 0) (holding 0) (some after) h-atom-moves h-sealed)
+-- with nothing in place of the atom, its neighbour stands alone
+neighbour-alone : Becomes (machine .cmdAt) before 0 none (some (at 14))
+unfolding atomIn leftMoves
+neighbour-alone = left-ends refl (the-command refl)
 
 -- the block alone: its first command, and its second, with which it ends
 first-alone : Reaches machine (holding 1) (some (at 9)) (0 ∷ []) (holding 0) (some block)
@@ -95,7 +78,18 @@ h-to-end : Reaches machine (holding 0) none (0 ∷ 0 ∷ 0 ∷ []) (holding 0) (
 unfolding opens
 h-to-end = goes refl (goes refl (goes refl stays))
 
--- so after the first, whatever the choice, the neighbour isn't picked
+-- after the first, the atom stands where it stood, around what is left of it, beside the neighbour
+second-in-place : Becomes (machine .cmdAt) before 0 (some (entered (at 9))) (some (beside (entered (at 9)) (at 14)))
+unfolding atomIn leftMoves
+second-in-place = left-goes-on refl (the-command refl)
+
+pub h-stands : (s : Store) (o : Option Control) → Reaches machine s o (0 ∷ []) (holding 0) (some after) → o ≡ some (beside (entered (at 9)) (at 14))
+unfolding opens
+h-stands =
+    block-stands machine before 0 10 (From 0) (holding 0) (some after) h-sealed (0 ∷ []) (holding 1) (at 9) first-alone
+    (some (beside (entered (at 9)) (at 14))) second-in-place
+
+-- so, whatever the choice, the neighbour isn't picked
 pub h-neighbour-waits : (k : ℕ) → getElem? (movable (beside (entered (at 9)) (at 14))) k ≡ some (move 14 (From 0)) → ⊥
 unfolding opens
 h-neighbour-waits =
@@ -111,13 +105,10 @@ h-moved s o r =
 
 -- and then the neighbour stands alone, with x as the block left it
 pub h-left : Reaches machine (holding 0) none (0 ∷ []) (holding 2) (some (at 14))
-unfolding opens fill
+unfolding opens
 h-left =
-    subst (λ C. Reaches machine (holding 0) none (0 ∷ []) (holding 2) (fill (machine .cmdAt) C none)) h-place
-    (
     block-left machine before 0 10 (From 0) (holding 0) (some after) h-sealed (0 ∷ 0 ∷ []) (0 ∷ []) (holding 2) both-alone
-    (holding 0) none h-to-end
-    )
+    (some (at 14)) neighbour-alone (holding 0) none h-to-end
 
 -- ---- `var x; {x = 1 || atom({x = 2; x = 3})}` after 0: choice 1 enters the atom, at node 7, and node 1 waits
 
@@ -153,12 +144,10 @@ unfolding opens
 nested-reached = refl
 
 pub nested-innermost : (x : Innermost nested) → x .inner ≡ beside (at 1) (at 3)
-unfolding plug atomIn
+unfolding atomIn
 nested-innermost x =
-    innermost-once nested x
-    (record { around = leftOf (inside here) (at 8); inner = beside (at 1) (at 3); is = refl; quiet = (refl, tt); calm = refl })
-    .1
+    innermost-once nested (tt, (tt, tt, tt), tt) x
+    (record { inner = beside (at 1) (at 3); stands = in-left (in-entered is-entered); calm = refl })
 
-pub nested-not-outer : (x : Innermost nested) → x .around ≡ leftOf here (at 8) → ⊥
-unfolding plug
-nested-not-outer x = never-the-outer (leftOf here (at 8)) here (beside (at 1) (at 3)) x
+pub nested-not-outer : (x : Innermost nested) → x .inner ≡ entered (beside (at 1) (at 3)) → ⊥
+nested-not-outer = never-the-outer (entered (beside (at 1) (at 3))) is-entered

@@ -17,11 +17,11 @@ use Rattle.rules.specs.Eval.{Res, ok, fault, stuck, _>>=_, Closure, closure, ev
 use Rattle.rules.specs.Control.{Control, move, movable, goesTo}
 use Rattle.safety.specs.Inside.{Nested}
 use Rattle.rules.specs.Step.{does, step, Deed, deed, enter, calling, exec, miniOO}
-use Rattle.safety.specs.Atoms.{EntersBlock, Sealed, AtomMoves}
-use Rattle.safety.specs.Rooms.{Does}
+use Rattle.safety.specs.Atoms.{Sealed, AtomMoves}
+use Rattle.safety.proofs.Plans.{Does}
 use Rattle.safety.proofs.ReachesStep.{Goes, goes-only}
 use Rattle.safety.proofs.Rooms.{made-only}
-use Rattle.safety.proofs.Atoms.{only-that-block-moves}
+use Rattle.safety.proofs.Atoms.{EntersBlock, only-that-block-moves}
 
 -- what is given, if something is
 abbrev Gives : {A : Type 0} → (A → Type 0) → Res A → Type 0

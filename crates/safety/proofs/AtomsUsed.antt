@@ -1,20 +1,18 @@
 -- What a sealed block gives, for any machine. While the block, run alone, hasn't ended, the whole is where it is, all
--- around as it was, and a command that isn't the block's own can't be picked (`block-open`, `no-other-moves`); so the
--- commands that move are the block's own, one by one (`block-moves`). When it has ended, the run goes on from what stood
--- around it, with nothing at its place (`block-left`). Only fields of `Sealed` are used. Assumes nothing.
+-- around as it was, and a command that isn't the block's own can't be picked (`block-open`, `block-stands`,
+-- `no-other-moves`); so the commands that move are the block's own, one by one (`block-moves`). When it has ended, the run goes on from control with
+-- nothing in its place (`block-left`). Nothing but `Sealed` is used. Assumes nothing.
 use Prim.Native.Nat.{ℕ}
 use mathlib.Core.Path.{_≡_, refl, sym, ap, subst, _∙_}
 use mathlib.Core.Option.{Option, none, some, Option·none-ne-some, Option·some-injective}
 use mathlib.Core.List.{List, [], _∷_, _++_}
 use lib.ListN.{getElem?}
 use Rattle.rules.specs.declared.Chain.{Chain}
-use Rattle.rules.specs.State.{Store}
-use Rattle.rules.specs.Script.{Script}
-use Rattle.rules.specs.Control.{Control, command, entered, opened, Move, move, movable, goesTo}
-use Rattle.rules.specs.Step.{Machine, step, miniOO}
-use Rattle.rules.proofs.Around.{Around, plug, fill}
+use Rattle.rules.specs.Control.{Control, entered, opened, Move, movable, goesTo}
+use Rattle.rules.specs.Step.{Machine, step}
 use Rattle.safety.specs.Reaches.{Reaches, stays, goes}
-use Rattle.safety.specs.Atoms.{OnlyBlock, still-inside, was-left, Sealed, AtomMoves}
+use Rattle.safety.specs.Atoms.{Becomes, OnlyBlock, still-inside, was-left, Sealed}
+use Rattle.safety.proofs.Becoming.{becomes-once}
 use Rattle.safety.proofs.Reaches.{Between, reach-on, reach-split, reach-same}
 
 module _ {S E : Type 0} (m : Machine S E) where
@@ -70,33 +68,37 @@ module _ {S E : Type 0} (m : Machine S E) where
 
   -- ---- the block, by its run alone
 
-  -- the whole at a moment of the block's run: the same store; the block at its place; and nothing else can move
-  pub record Open (C : Around) (v : Control) (s₁ s′ : S) (o′ : Option Control) : Type 0 where
+  -- the whole at a moment of the block's run: the same store; the block in its place; and nothing else can move
+  pub record Open (t : Control) (i : ℕ) (v : Control) (s₁ s′ : S) (o′ : Option Control) : Type 0 where
     pub store : s′ ≡ s₁
-    pub stands : o′ ≡ some (plug C (entered v))
-    pub others-wait : movable (plug C (entered v)) ≡ movable v
+    pub control : Control
+    pub is : o′ ≡ some control
+    pub stands : Becomes (m .cmdAt) t i (some (entered v)) (some control)
+    pub others-wait : movable control ≡ movable v
 
-  module _ (t : Control) (i n : ℕ) (ch : Chain) (s : S) (o : Option Control) (x : Sealed m t i n ch s o) where
+  module _ (t : Control) (i n : ℕ) (ch : Chain) (s : S) (o : Option Control) (only : Sealed m t i n ch s o) where
     -- while the block, run alone, hasn't ended
     pub block-open : (cs : List ℕ) (s₁ : S) (v : Control)
         → Reaches m s₁ (some v) cs s (some (opened (m .cmdAt n) ch))
         → (s′ : S) (o′ : Option Control)
         → Reaches m s′ o′ cs s o
-        → Open (x .around) v s₁ s′ o′
-    block-open cs s₁ v a s′ o′ r = go (x .only cs s′ o′ r)
+        → Open t i v s₁ s′ o′
+    block-open cs s₁ v a s′ o′ r = go (only cs s′ o′ r)
       where
         u : Control
         u = opened (m .cmdAt n) ch
 
-        go : OnlyBlock m (x .around) u cs s s′ o′ → Open (x .around) v s₁ s′ o′
+        go : OnlyBlock m t i u cs s s′ o′ → Open t i v s₁ s′ o′
         go (still-inside y) =
             let same : (s′ ≡ s₁) × (some (y .inner) ≡ some v) =
             reach-same m cs s (some u) s′ s₁ (some (y .inner)) (some v) (y .alone) a in
-            let is : y .inner ≡ v = Option·some-injective (y .inner) v (same .1) in
+            let same-inner : y .inner ≡ v = Option·some-injective (y .inner) v (same .1) in
             record {
               store = same .0;
-              stands = y .stands ∙ ap (λ w. some (plug (x .around) (entered w))) is;
-              others-wait = subst (λ w. movable (plug (x .around) (entered w)) ≡ movable w) is (y .others-wait);
+              control = y .control;
+              is = y .is;
+              stands = subst (λ w. Becomes (m .cmdAt) t i (some (entered w)) (some (y .control))) same-inner (y .stands);
+              others-wait = subst (λ w. movable (y .control) ≡ movable w) same-inner (y .others-wait);
             }
         go (was-left y) =
             absurd
@@ -105,9 +107,33 @@ module _ {S E : Type 0} (m : Machine S E) where
             (subst (λ l. Reaches m s₁ (some v) l s (some u)) (y .is) a)
             )
 
-    -- at once: the block's inside, opened, stands entered where the command that moved stood
-    pub block-entered : o ≡ some (plug (x .around) (entered (opened (m .cmdAt n) ch)))
-    block-entered = block-open [] s (opened (m .cmdAt n) ch) stays s o stays .stands
+    -- so control is what the rules for control make of the atom around what is left of it, in its place, and nothing else
+    pub block-stands : (cs : List ℕ) (s₁ : S) (v : Control)
+        → Reaches m s₁ (some v) cs s (some (opened (m .cmdAt n) ch))
+        → (o₁ : Option Control)
+        → Becomes (m .cmdAt) t i (some (entered v)) o₁
+        → (s′ : S) (o′ : Option Control)
+        → Reaches m s′ o′ cs s o
+        → o′ ≡ o₁
+    block-stands cs s₁ v a o₁ placed s′ o′ r =
+        let y = block-open cs s₁ v a s′ o′ r in
+        y .is ∙ becomes-once (m .cmdAt) t i (some (entered v)) (y .stands) placed
+
+    -- at once: the block's inside, opened, stands entered in place of the command that moved
+    pub block-entered : (t′ : Control) → o ≡ some t′ → Becomes (m .cmdAt) t i (some (entered (opened (m .cmdAt n) ch))) (some t′)
+    block-entered t′ e =
+        let y = block-open [] s (opened (m .cmdAt n) ch) stays s o stays in
+        subst (Becomes (m .cmdAt) t i (some (entered (opened (m .cmdAt n) ch)))) (sym (y .is) ∙ e) (y .stands)
+
+    -- .. and only the block's own commands are movable
+    open-moves : (cs : List ℕ) (s₁ : S) (v : Control)
+        → Reaches m s₁ (some v) cs s (some (opened (m .cmdAt n) ch))
+        → (s′ : S) (t′ : Control)
+        → Reaches m s′ (some t′) cs s o
+        → movable t′ ≡ movable v
+    open-moves cs s₁ v a s′ t′ r =
+        let y = block-open cs s₁ v a s′ (some t′) r in
+        ap movable (Option·some-injective t′ (y .control) (y .is)) ∙ y .others-wait
 
     -- a command that isn't the block's own isn't picked by any choice
     pub no-other-moves : (cs : List ℕ) (s₁ : S) (v : Control)
@@ -119,10 +145,7 @@ module _ {S E : Type 0} (m : Machine S E) where
         → (k : ℕ)
         → getElem? (movable t′) k ≡ some w
         → ⊥
-    no-other-moves cs s₁ v a s′ t′ r w f k e =
-        let y : Open (x .around) v s₁ s′ (some t′) = block-open cs s₁ v a s′ (some t′) r in
-        let is : t′ ≡ plug (x .around) (entered v) = Option·some-injective t′ (plug (x .around) (entered v)) (y .stands) in
-        f k (ap (λ l. getElem? l k) (sym (ap movable is ∙ y .others-wait)) ∙ e)
+    no-other-moves cs s₁ v a s′ t′ r w f k e = f k (ap (λ l. getElem? l k) (sym (open-moves cs s₁ v a s′ t′ r)) ∙ e)
 
     -- since the choices ds, with which the block alone hasn't ended
     moves-on : (cs : List ℕ) (s₁ : S) (p : Option Control) (s₀ : S) (q : Option Control)
@@ -138,10 +161,8 @@ module _ {S E : Type 0} (m : Machine S E) where
     unfolding moved
     moves-on _ s₁ p _ _ stays v e ds b s₂ o₂ z _ _ stays = refl
     moves-on _ s₁ p _ _ (goes {i = j} {cs = cs} {s = s₀} {t = w} {s₁ = s₃} {o = q} f a) v e ds b _ _ z s′ o′ (goes {s = s₂} {t = t₂} {s₁ = s₄} {o = o₄} g r) =
-        let y : Open (x .around) v s₀ s₂ (some t₂) = block-open ds s₀ v b s₂ (some t₂) z in
-        let is : t₂ ≡ plug (x .around) (entered v) = Option·some-injective t₂ (plug (x .around) (entered v)) (y .stands) in
         let k : w ≡ v = Option·some-injective w v e in
-        let first : movable t₂ ≡ movable w = ap movable is ∙ y .others-wait ∙ ap movable (sym k) in
+        let first : movable t₂ ≡ movable w = open-moves ds s₀ v b s₂ t₂ z ∙ ap movable (sym k) in
         let rest : moved r ≡ moved a =
         go q refl k (λ v₂ h ds₂ b₂ z₂. moves-on cs s₁ p s₃ q a v₂ h ds₂ b₂ s₄ o₄ z₂ s′ o′ r) in
         ap (λ l. getElem? l j ∷ moved r) first ∙ ap (λ l. getElem? (movable w) j ∷ l) rest
@@ -169,33 +190,26 @@ module _ {S E : Type 0} (m : Machine S E) where
     block-moves cs s₁ p a s′ o′ r =
         moves-on cs s₁ p s (some (opened (m .cmdAt n) ch)) a (opened (m .cmdAt n) ch) refl [] stays s o stays s′ o′ r
 
-    -- when it has ended, with the first of the choices: the others go on from what stood around it, filled with nothing
+    -- when it has ended, with the first of the choices: the others go on from control with nothing in its place
     pub block-left : (first later : List ℕ) (s₁ : S)
         → Reaches m s₁ none first s (some (opened (m .cmdAt n) ch))
+        → (o₁ : Option Control)
+        → Becomes (m .cmdAt) t i none o₁
         → (s′ : S) (o′ : Option Control)
         → Reaches m s′ o′ (first ++ later) s o
-        → Reaches m s′ o′ later s₁ (fill (m .cmdAt) (x .around) none)
-    block-left first later s₁ a s′ o′ r = go (x .only (first ++ later) s′ o′ r)
+        → Reaches m s′ o′ later s₁ o₁
+    block-left first later s₁ a o₁ nothing s′ o′ r = go (only (first ++ later) s′ o′ r)
       where
         u : Control
         u = opened (m .cmdAt n) ch
 
-        go : OnlyBlock m (x .around) u (first ++ later) s s′ o′ → Reaches m s′ o′ later s₁ (fill (m .cmdAt) (x .around) none)
+        go : OnlyBlock m t i u (first ++ later) s s′ o′ → Reaches m s′ o′ later s₁ o₁
         go (still-inside y) = absurd (after-end first later s s₁ s′ (some u) (y .inner) a (y .alone))
         go (was-left y) =
             let same : (y .store ≡ s₁) × (y .later ≡ later) =
             ends-once (y .first) first (y .later) later s (y .store) s₁ (some u) (y .alone) a (sym (y .is)) in
-            subst (λ l. Reaches m s′ o′ l s₁ (fill (m .cmdAt) (x .around) none)) (same .1)
+            subst (λ l. Reaches m s′ o′ l s₁ o₁) (same .1)
             (
-            subst (λ z. Reaches m s′ o′ (y .later) z (fill (m .cmdAt) (x .around) none)) (same .0)
-            (subst (λ p. Reaches m s′ o′ (y .later) (y .store) p) (y .closed) (y .on))
+            subst (λ z. Reaches m s′ o′ (y .later) z o₁) (same .0)
+            (subst (λ p. Reaches m s′ o′ (y .later) (y .store) p) (becomes-once (m .cmdAt) t i none (y .closed) nothing) (y .on))
             )
-
--- In this language the command that stood at the place is the atom, in the block's own chain.
-pub atom-stood : (sc : Script) (t : Control) (i n : ℕ) (ch : Chain) (s : Store) (o : Option Control)
-    → (a : AtomMoves sc t i n ch)
-    → (x : Sealed (miniOO sc) t i n ch s o)
-    → t ≡ plug (x .around) (command (a .node) ch)
-atom-stood sc t i n ch s o a x =
-    let e : some (move (x .node) (x .chain)) ≡ some (move (a .node) ch) = sym (x .picks) ∙ a .picks in
-    x .stood ∙ ap (plug (x .around)) (cc)

@@ -1,17 +1,15 @@
 -- Of two trees side by side the right one is asked first for an entered atom (`among`, `side` of the rules). For nested
 -- atoms, the only ones that a run meets, the left one first gives the same: movable commands, and what stands after a
 -- step. Assumes nothing.
-use Prim.Native.Nat.{ℕ, suc, _+_, _-_, _<_, _≤_}
-use mathlib.Core.Path.{_≡_, refl, sym, ap}
+use Prim.Native.Nat.{ℕ, _-_}
+use mathlib.Core.Path.{_≡_, refl}
 use mathlib.Core.Bool.{Bool, true, false, cond, not, _&&_}
 use mathlib.Core.Option.{Option, some, Option·map}
-use mathlib.Core.List.{List, [], _∷_, _++_, map, map-append}
-use native.Mathlib.Omega.{arith}
-use lib.ListN.{length, length-append}
+use mathlib.Core.List.{List, [], _∷_, _++_}
+use lib.ListN.{length}
 use lib.Dec.{T, ltb}
-use Rattle.rules.specs.Syntax.{Cmd, noCmd, var, call, malloc, assign, assignField, skip, seq, while, if, par, atom}
-use Rattle.rules.specs.declared.Chain.{Chain}
-use Rattle.rules.specs.Control.{Control, command, followed, beside, entered, parts, opened, atomIn, among, Move, move, movable}
+use Rattle.rules.specs.Syntax.{Cmd}
+use Rattle.rules.specs.Control.{Control, command, followed, beside, entered, atomIn, among, Move, move, movable}
 use Rattle.safety.specs.Inside.{Nested}
 use Rattle.rules.specs.Step.{Side, inLeft, inRight, side, andThen, both, put}
 

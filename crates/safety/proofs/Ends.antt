@@ -12,8 +12,8 @@ use Rattle.rules.specs.declared.Stop.{Stop}
 use Rattle.rules.specs.declared.End.{End}
 use Rattle.rules.specs.declared.End.the-variants.{Done, UsedUp, Stopped}
 use Rattle.rules.specs.Step.{Machine, step}
-use Rattle.rules.specs.Run.{Ran, ran, onward, runFrom}
-use Rattle.safety.specs.Reaches.{Reaches, stays, goes, DoneAt, UsedUpAt, StoppedAt, EndsSo, Left}
+use Rattle.rules.specs.Run.{ran, onward, runFrom}
+use Rattle.safety.specs.Reaches.{stays, goes, DoneAt, UsedUpAt, StoppedAt, EndsSo, Left}
 use Rattle.safety.proofs.Reaches.{run-reaches}
 
 module _ {S E : Type 0} (m : Machine S E) where

@@ -2,8 +2,8 @@ pub mod Links
 pub mod LinksNeeded
 pub mod Fine
 pub mod Later
-pub mod NumberedOnly
 pub mod NumberedRows
+pub mod NumberedOnly
 pub mod Stops
 pub mod Progress
 pub mod Keeps
@@ -17,10 +17,12 @@ pub mod Reaches
 pub mod Ends
 pub mod SoFar
 pub mod AtomsInside
+pub mod Entered
+pub mod Becoming
 pub mod Atoms
-pub mod AtomsInnermost
 pub mod AtomsUsed
 pub mod AtomsNodes
+pub mod Plans
 pub mod Rooms
 pub mod RoomsRuns
 pub mod Preserved
@@ -30,7 +32,6 @@ pub mod Accepted
 pub mod Demand3
 pub mod Zero
 pub mod NotVacuous
-pub mod Entered
 pub mod SafeUsed
 pub mod PutLaws
 pub mod EitherFirst

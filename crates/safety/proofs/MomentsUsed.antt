@@ -9,8 +9,8 @@ use native.Mathlib.Omega.{arith}
 use lib.ListN.{length}
 use borrow.Author.Tests.{le-leb}
 use Rattle.rules.specs.State.{mostParts}
-use Rattle.rules.specs.Control.{Control, parts}
-use Rattle.rules.specs.Step.{fits, Machine}
+use Rattle.rules.specs.Control.{Control, parts, fits}
+use Rattle.rules.specs.Step.{Machine}
 use Rattle.rules.specs.Run.{runFrom, run, begins}
 use Rattle.safety.specs.Reaches.{Moment}
 use Rattle.safety.proofs.Reaches.{run-reaches}

@@ -33,29 +33,29 @@ use Rattle.safety.proofs.Demand3.{At, always-safe, only-the-entered-blo
 
 unfoldable allBytes : List ℕ → Bool
 allBytes [] = true
-allBytes (b ∷ s) = ltb b 256 && allBytes s
+allBytes (b ∷ img) = ltb b 256 && allBytes img
 
-bytes-if : (s : List ℕ) → T (allBytes s) → Bytes s
+bytes-if : (img : List ℕ) → T (allBytes img) → Bytes img
 unfolding allBytes
 bytes-if [] h zero = omega arith
 bytes-if [] h (suc i) = omega arith
-bytes-if (b ∷ s) h i = go (ltb b 256) refl h i (λ k j. bytes-if s k j)
+bytes-if (b ∷ img) h i = go (ltb b 256) refl h i (λ k j. bytes-if img k j)
   where
-    go : (x : Bool) → ltb b 256 ≡ x → T (x && allBytes s) → (i : ℕ) → (T (allBytes s) → Bytes s) → getD (b ∷ s) i 0 < 256
+    go : (x : Bool) → ltb b 256 ≡ x → T (x && allBytes img) → (i : ℕ) → (T (allBytes img) → Bytes img) → getD (b ∷ img) i 0 < 256
     go true e k zero f = ltb→lt b 256 (subst T (sym e) tt)
     go true e k (suc i) f = f k i
     go false e k i f = absurd k
 
 -- ---- an accepted script is safe in the state that any choices leave
 
-module _ (bytes : List ℕ) (are-bytes : Bytes bytes) (accepted : check size bytes ≡ Accepted) where
-  pub left-safe : parts (begins (miniOO (scriptOf bytes)) (rootOf bytes)) ≤ mostParts
+module _ (img : List ℕ) (are-bytes : Bytes img) (accepted : check size img ≡ Accepted) where
+  pub left-safe : parts (begins (miniOO (scriptOf img)) (rootOf img)) ≤ mostParts
       → (choices : List ℕ)
-      → Safe (scriptOf bytes) (runScript bytes choices .store) (runScript bytes choices .control)
+      → Safe (scriptOf img) (runScript img choices .store) (runScript img choices .control)
   unfolding runScript
   left-safe h choices =
-      always-safe size bytes are-bytes accepted choices (runScript bytes choices .store) (runScript bytes choices .control)
-      (run-moment (scriptOf bytes) (rootOf bytes) choices h)
+      always-safe size img are-bytes accepted choices (runScript img choices .store) (runScript img choices .control)
+      (run-moment (scriptOf img) (rootOf img) choices h)
 
 abbrev pub framesOnly : List Frame → Store
 framesOnly fs = record { frames = fs; objects = [] }

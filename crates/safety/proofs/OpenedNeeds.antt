@@ -20,7 +20,7 @@ use Rattle.safety.proofs.Progress.{fit-at}
 use Rattle.safety.proofs.Focus.{Focus, focus}
 use Rattle.safety.proofs.Plug.{nested-opened}
 
-module _ (sc : Script) (Γ : Names) (ch : Chain) where
+module _ (sc : Script) (visible : Names) (ch : Chain) where
   -- Q of every command of a tree, and those that can move are command parts
   abbrev Each : (ℕ → Chain → Type 0) → Control → Type 0
   Each Q (command n dh) = T (single (sc .cmdAt n)) × Q n dh
@@ -52,26 +52,26 @@ module _ (sc : Script) (Γ : Names) (ch : Chain) where
   -- the command at a node, in this chain, needs no more than c
   pub record Less (c : Cmd) (n : ℕ) (dh : Chain) : Type 0 where
     pub chain : dh ≡ ch
-    pub scoped : FitCmd sc Γ (sc .cmdAt n)
+    pub scoped : FitCmd sc visible (sc .cmdAt n)
     pub less : (x : ℕ) → T (needs (sc .cmdAt n) x) → T (needs c x)
 
-  less-at : (c : Cmd) → FitCmd sc Γ c → Less c (cmdNo c) ch
+  less-at : (c : Cmd) → FitCmd sc visible c → Less c (cmdNo c) ch
   less-at c h =
-      let e = fit-at sc c Γ h in
+      let e = fit-at sc c visible h in
       record {
         chain = refl;
-        scoped = subst (λ (d : Cmd). FitCmd sc Γ d) (sym e) h;
+        scoped = subst (λ (d : Cmd). FitCmd sc visible d) (sym e) h;
         less = λ x k. subst (λ (d : Cmd). T (needs d x)) e k;
       }
 
-  alone : (c : Cmd) → T (single c) → FitCmd sc Γ c → T (single (sc .cmdAt (cmdNo c))) × Less c (cmdNo c) ch
-  alone c t h = (subst (λ (d : Cmd). T (single d)) (sym (fit-at sc c Γ h)) t, less-at c h)
+  alone : (c : Cmd) → T (single c) → FitCmd sc visible c → T (single (sc .cmdAt (cmdNo c))) × Less c (cmdNo c) ch
+  alone c t h = (subst (λ (d : Cmd). T (single d)) (sym (fit-at sc c visible h)) t, less-at c h)
 
   part : (a c : Cmd) → ((x : ℕ) → T (needs a x) → T (needs c x)) → (n : ℕ) (dh : Chain) → Less a n dh → Less c n dh
   part a c f n dh h = record { chain = h .chain; scoped = h .scoped; less = λ x k. f x (h .less x k) }
 
   -- when a command is opened, each command then in control stands in its chain and needs no more than it did
-  opened-less : (c : Cmd) → FitCmd sc Γ c → Each (Less c) (opened c ch)
+  opened-less : (c : Cmd) → FitCmd sc visible c → Each (Less c) (opened c ch)
   unfolding opened single cmdNo needs
   opened-less (noCmd n) h = absurd h
   opened-less (var n x c) h = alone (var n x c) tt h
@@ -92,10 +92,10 @@ module _ (sc : Script) (Γ : Names) (ch : Chain) where
   )
   opened-less (atom n c) h = alone (atom n c) tt h
 
-  pub opened-waits : (c : Cmd) → FitCmd sc Γ c → (n : ℕ) (dh : Chain) → Waits (opened c ch) n dh → Less c n dh
+  pub opened-waits : (c : Cmd) → FitCmd sc visible c → (n : ℕ) (dh : Chain) → Waits (opened c ch) n dh → Less c n dh
   opened-waits c h n dh w = each-waits (Less c) (opened c ch) n dh (opened-less c h) w
 
-  pub opened-moves : (c : Cmd) → FitCmd sc Γ c → (i n : ℕ) (dh : Chain)
+  pub opened-moves : (c : Cmd) → FitCmd sc visible c → (i n : ℕ) (dh : Chain)
       → getElem? (movable (opened c ch)) i ≡ some (move n dh)
       → T (single (sc .cmdAt n)) × Less c n dh
   opened-moves c h i n dh p =

@@ -15,8 +15,8 @@ use Rattle.rules.specs.declared.Value.{Value}
 use Rattle.rules.specs.declared.Value.the-variants.{Nothing}
 use Rattle.rules.specs.State.{Store, empty, mostParts}
 use Rattle.rules.specs.Script.{Script}
-use Rattle.rules.specs.Control.{Control, parts, atomIn, Move, move, movable, goesTo}
-use Rattle.rules.specs.Step.{fits, step, miniOO}
+use Rattle.rules.specs.Control.{Control, parts, fits, atomIn, Move, move, movable, goesTo}
+use Rattle.rules.specs.Step.{step, miniOO}
 use Rattle.rules.specs.Run.{runFrom, run, begins}
 use Rattle.rules.specs.Numbers.{endNo, endValues}
 use Rattle.rules.proofs.ControlLaws.{some-moves}
@@ -28,7 +28,7 @@ use Rattle.safety.specs.Numbered.{EndNumbered}
 use Rattle.safety.specs.Atoms.{Innermost, Sealed, AtomMoves}
 use Rattle.safety.proofs.LinksNeeded.{names-found, held-exists, never-nothing}
 use Rattle.safety.proofs.Ends.{run-leaves}
-use Rattle.safety.proofs.AtomsInside.{innermost, others-wait}
+use Rattle.safety.proofs.Entered.{innermost, others-wait}
 use Rattle.safety.proofs.AtomsNodes.{only-that-atom-moves}
 use Rattle.safety.proofs.Preserved.{start-safe, reaches-safe, ready-at, run-sound}
 
@@ -76,8 +76,8 @@ module _ (sc : Script) (root : ℕ) (cs : List ℕ) (fit : FitCmd sc [] (sc .cmd
       → atomIn t ≡ true
       → (x : Innermost t) × (movable t ≡ movable (x .inner))
   inside-only s t y e =
-      let x : Innermost t = innermost t (moment-safe s (some t) y .control .nested) e in
-      (x, others-wait t x)
+      let x : Innermost t = innermost t e in
+      (x, others-wait t (moment-safe s (some t) y .control .nested) (x .stands))
 
   -- The run can stop only as done, as one of the seven faults, for the choices, or for room.
   pub ends-numbered : EndNumbered (sc .nodes) (endNo (run (miniOO sc) empty root cs .end)) (endValues (run (miniOO sc) empty root cs .end))

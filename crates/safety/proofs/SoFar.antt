@@ -13,8 +13,8 @@ use borrow.Author.Tests.{le-leb}
 use Rattle.rules.specs.declared.End.{End}
 use Rattle.rules.specs.declared.End.the-variants.{Done, UsedUp, Stopped}
 use Rattle.rules.specs.State.{mostParts}
-use Rattle.rules.specs.Control.{Control, parts}
-use Rattle.rules.specs.Step.{fits, Machine}
+use Rattle.rules.specs.Control.{Control, parts, fits}
+use Rattle.rules.specs.Step.{Machine}
 use Rattle.rules.specs.Run.{Ran, ran, runFrom, run, begins}
 use Rattle.safety.specs.Reaches.{Reaches, Moment, EndsSo, Left}
 use Rattle.safety.proofs.Reaches.{run-reaches}

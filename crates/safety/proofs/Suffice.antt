@@ -13,7 +13,7 @@ use Rattle.rules.specs.declared.Chain.{Chain}
 use Rattle.rules.specs.declared.Value.{Value}
 use Rattle.rules.specs.State.{Store, find, fieldOf}
 use Rattle.rules.specs.Script.{Script}
-use Rattle.rules.specs.Eval.{Res, stuck, there, Closure, closure, asObject, asField, asProc, stored, eval, test}
+use Rattle.rules.specs.Eval.{faultNo, noObject, noField, noProcedure, Res, stuck, there, Closure, closure, asObject, asField, asProc, stored, eval, test}
 use Rattle.rules.specs.Control.{opened, move, movable}
 use Rattle.rules.specs.Step.{calling, exec}
 use Rattle.safety.specs.Safe.{FitExp, FitTest, FitCmd, single, RealIf, ObjectFits, StoreFits}
@@ -24,16 +24,16 @@ use Rattle.safety.proofs.LinksNeeded.{Bear, first, second}
 use Rattle.safety.proofs.OpenedNeeds.{opened-moves}
 use Rattle.safety.proofs.Fine.{Any, Of, Stated, fine-bind, fine-there, fine-object, fine-field, fine-proc, fine-stored, fine-entry, fine-field-of, fine-find, eval-borne, test-borne}
 
-module _ (sc : Script) (s : Store) (good : StoreFits sc s) (Γ : Names) (ch : Chain) where
+module _ (sc : Script) (s : Store) (good : StoreFits sc s) (visible : Names) (ch : Chain) where
   abbrev Held : Value → Type 0
   Held = RealIf sc (Stated sc) s
 
-  fine-exp : (e : Exp) → FitExp sc Γ e → Bear (s .frames) ch (needsExp e) → Fine sc Held (eval s ch e)
-  fine-exp e h b = eval-borne sc s (Stated sc) (λ n dh p. (_, p .is)) good ch Γ (λ n y c p. (_, p .1)) e h b
+  fine-exp : (e : Exp) → FitExp sc visible e → Bear (s .frames) ch (needsExp e) → Fine sc Held (eval s ch e)
+  fine-exp e h b = eval-borne sc s (Stated sc) (λ n dh p. (_, p .is)) good ch visible (λ n y c p. (_, p .1)) e h b
 
-  fine-cond : (t : Test) → FitTest sc Γ t → Bear (s .frames) ch (needsTest t) → Fine sc Any (test sc s ch t)
+  fine-cond : (t : Test) → FitTest sc visible t → Bear (s .frames) ch (needsTest t) → Fine sc Any (test sc s ch t)
   fine-cond t h b =
-      test-borne sc s (Stated sc) (λ n dh p. (_, p .is)) good ch Γ (λ n y c p. (_, p .1)) (λ n dh p. p) t h b
+      test-borne sc s (Stated sc) (λ n dh p. (_, p .is)) good ch visible (λ n y c p. (_, p .1)) (λ n dh p. p) t h b
 
   fine-calling : (arg : Res Value) (p : Closure) → Fine sc Held arg → Of (Stated sc) p → Fine sc Any (calling sc s arg p)
   unfolding calling
@@ -41,13 +41,13 @@ module _ (sc : Script) (s : Store) (good : StoreFits sc s) (Γ : Names) (ch : Ch
       fine-bind sc Held Any (stored arg) _ (fine-stored sc s (Stated sc) arg h) λ v _.
       fine-bind sc Any Any (there (sc .procAt m)) _ (fine-there sc Any _ (p .0) (p .1) tt) λ q _. tt
 
-  fine-single : (c : Cmd) → T (single c) → FitCmd sc Γ c → Bear (s .frames) ch (needs c) → Fine sc Any (exec sc s ch c)
+  fine-single : (c : Cmd) → T (single c) → FitCmd sc visible c → Bear (s .frames) ch (needs c) → Fine sc Any (exec sc s ch c)
   unfolding exec single needs
   fine-single (noCmd n) t h b = h
   fine-single (var n x c) t h b = tt
   fine-single (call n a e) t h b =
       fine-bind sc Held Any (eval s ch a) _ (fine-exp a (h .1) (first (s .frames) ch (needsExp a) (needsExp e) b)) λ v r.
-      fine-bind sc (Of (Stated sc)) Any (asProc 7 n v) _ (fine-proc sc s (Stated sc) 7 n tt (h .0 .0) v r) λ p q.
+      fine-bind sc (Of (Stated sc)) Any (asProc (faultNo noProcedure) n v) _ (fine-proc sc s (Stated sc) noProcedure n (h .0 .0) v r) λ p q.
       fine-calling (eval s ch e) p (fine-exp e (h .2) (second (s .frames) ch (needsExp a) (needsExp e) b)) q
   fine-single (malloc n x) t h b =
       fine-bind sc (λ k. k < length (s .frames)) Any (there (find (s .frames) x ch)) _ (fine-find sc s ch x (b x (eqb-refl x))) λ k _. tt
@@ -58,8 +58,8 @@ module _ (sc : Script) (s : Store) (good : StoreFits sc s) (Γ : Names) (ch : Ch
       let both : Bear (s .frames) ch (λ x. needsExp a x || needsExp e x) = first (s .frames) ch (λ x. needsExp a x || needsExp e x) (needsExp c) b in
       fine-bind sc Held Any (eval s ch a) _ (fine-exp a (h .1) (first (s .frames) ch (needsExp a) (needsExp e) both)) λ v p.
       fine-bind sc Held Any (eval s ch e) _ (fine-exp e (h .2) (second (s .frames) ch (needsExp a) (needsExp e) both)) λ w q.
-      fine-bind sc (λ o. o < length (s .objects)) Any (asObject 3 n v) _ (fine-object sc s (Stated sc) 3 n tt (h .0 .0) v p) λ o l.
-      fine-bind sc (λ f. (1 ≤ f) × (f ≤ sc .fields)) Any (asField 4 n w) _ (fine-field sc s (Stated sc) 4 n tt (h .0 .0) w q) λ f m.
+      fine-bind sc (λ o. o < length (s .objects)) Any (asObject (faultNo noObject) n v) _ (fine-object sc s (Stated sc) noObject n (h .0 .0) v p) λ o l.
+      fine-bind sc (λ f. (1 ≤ f) × (f ≤ sc .fields)) Any (asField (faultNo noField) n w) _ (fine-field sc s (Stated sc) noField n (h .0 .0) w q) λ f m.
       fine-bind sc Held Any (stored (eval s ch c)) _
       (fine-stored sc s (Stated sc) (eval s ch c) (fine-exp c (h .3) (second (s .frames) ch (λ x. needsExp a x || needsExp e x) (needsExp c) b))) λ u _.
       fine-bind sc (ObjectFits sc s) Any (there (getElem? (s .objects) o)) _
@@ -72,12 +72,12 @@ module _ (sc : Script) (s : Store) (good : StoreFits sc s) (Γ : Names) (ch : Ch
   fine-single (par n a c) t h b = absurd t
   fine-single (atom n c) t h b = tt
 
-  pub needed-names-suffice : (c : Cmd) → T (single c) → FitCmd sc Γ c → ((x : ℕ) → T (needs c x) → Borne (s .frames) ch x) → exec sc s ch c ≡ stuck → ⊥
+  pub needed-names-suffice : (c : Cmd) → T (single c) → FitCmd sc visible c → ((x : ℕ) → T (needs c x) → Borne (s .frames) ch x) → exec sc s ch c ≡ stuck → ⊥
   needed-names-suffice c t h b e = subst (Fine sc Any) e (fine-single c t h b)
 
   -- .. and for a sequence or parallel, when it is opened
-  pub opened-names-suffice : (c : Cmd) → FitCmd sc Γ c → ((x : ℕ) → T (needs c x) → Borne (s .frames) ch x)
+  pub opened-names-suffice : (c : Cmd) → FitCmd sc visible c → ((x : ℕ) → T (needs c x) → Borne (s .frames) ch x)
       → (i n : ℕ) (dh : Chain) → getElem? (movable (opened c ch)) i ≡ some (move n dh) → exec sc s dh (sc .cmdAt n) ≡ stuck → ⊥
   opened-names-suffice c h b i n dh p =
-      let m = opened-moves sc Γ ch c h i n dh p in
+      let m = opened-moves sc visible ch c h i n dh p in
       rw (m .1 .chain) (needed-names-suffice (sc .cmdAt n) (m .0) (m .1 .scoped) λ x k. b x (m .1 .less x k))

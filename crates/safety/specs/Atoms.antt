@@ -1,7 +1,7 @@
 -- Atomic blocks in runs (demand 3: "From the step that enters an atomic block to the step that leaves it, only that
--- block moves"), for any machine, nested blocks included. A block is entered by a step that leaves an entered atom at a
--- place of control; it is inside while the surroundings C stand with that atom around what is left of it; it is left
--- with the last step of its inside, when the place is filled with nothing. Only it moves: the same choices are a run of
+-- block moves"), for any machine, nested blocks included. A block is entered by a step that leaves an entered atom in
+-- place of the command that moved; it is inside while that atom stands there, around what is left of it; it is left
+-- with the last step of its inside, when nothing stands there. Only it moves: the same choices are a run of
 -- the block ALONE, all around stays, and no other command is movable. Assumes nothing.
 use Prim.Native.Nat.{ℕ}
 use mathlib.Core.Path.{_≡_}
@@ -11,36 +11,36 @@ use mathlib.Core.List.{List, _++_}
 use lib.ListN.{getElem?}
 use Rattle.rules.specs.Syntax.{Cmd, atom, cmdNo}
 use Rattle.rules.specs.declared.Chain.{Chain}
-use Rattle.rules.specs.declared.Next.the-variants.{Enters}
 use Rattle.rules.specs.Script.{Script}
-use Rattle.rules.specs.Control.{Control, command, entered, opened, atomIn, move, movable}
-use Rattle.rules.specs.Step.{Machine, does, plan}
-use Rattle.rules.proofs.Around.{Around, plug, fill, Quiet}
+use Rattle.rules.specs.Control.{Control, entered, opened, atomIn, move, movable, goesTo}
+use Rattle.rules.specs.Paper.{ComesTo}
+use Rattle.rules.specs.Step.{Machine}
+use Rattle.safety.specs.Inside.{EnteredIn}
 use Rattle.safety.specs.Reaches.{Reaches}
 
--- the innermost entered atom of a control: none beside it, and none inside
+-- the innermost entered atom of a control: none is entered inside it
 pub record Innermost (t : Control) : Type 0 where
-  pub around : Around
   pub inner : Control
-  pub is : t ≡ plug around (entered inner)
-  pub quiet : Quiet around
+  pub stands : EnteredIn inner t
   pub calm : atomIn inner ≡ false
 
-module _ {S E : Type 0} (m : Machine S E) where
-  -- with choice i, control t enters the block whose inside is the command at node n, in the chain ch
-  pub record EntersBlock (s : S) (t : Control) (i n : ℕ) (ch : Chain) : Type 0 where
-    pub effect : E
-    pub plans : plan m s t i ≡ does effect (Enters n ch)
+-- With p in place of the command that choice i names, control t becomes o: the rules for control say so of a command that comes
+-- to p and has no store.
+abbrev pub Becomes : (ℕ → Cmd) → Control → ℕ → Option Control → Option Control → Type 0
+Becomes cmdAt t i p o = ComesTo {S = Unit {0}} cmdAt (λ n ch out. out ≡ goesTo tt p) t i (goesTo tt o)
 
-  -- Since the block's inside was u, in the surroundings C and with the store s, the choices cs were made; they led to the
-  -- store s′ with the control o′.
-  module _ (C : Around) (u : Control) (cs : List ℕ) (s s′ : S) (o′ : Option Control) where
+module _ {S E : Type 0} (m : Machine S E) where
+  -- Choice i of t entered a block with the inside u. Since then, with the store s, the choices cs were made; they led to the store s′
+  -- with the control o′.
+  module _ (t : Control) (i : ℕ) (u : Control) (cs : List ℕ) (s s′ : S) (o′ : Option Control) where
     -- the block hasn't been left
     pub record StillInside : Type 0 where
       pub inner : Control  -- what is left of the block
       pub alone : Reaches m s′ (some inner) cs s (some u)  -- the run of the block alone, with the same choices
-      pub stands : o′ ≡ some (plug C (entered inner))  -- all around it is as it was
-      pub others-wait : movable (plug C (entered inner)) ≡ movable inner  -- nothing else is movable
+      pub control : Control
+      pub is : o′ ≡ some control
+      pub stands : Becomes (m .cmdAt) t i (some (entered inner)) (some control)  -- all around it is as it was
+      pub others-wait : movable control ≡ movable inner  -- nothing else is movable
 
     -- it has: a first part of the choices is the run of the block alone, to its end; the others go on without it
     pub record LeftSince : Type 0 where
@@ -50,25 +50,18 @@ module _ {S E : Type 0} (m : Machine S E) where
       pub store : S
       pub alone : Reaches m store none first s (some u)
       pub control : Option Control
-      pub closed : control ≡ fill (m .cmdAt) C none
+      pub closed : Becomes (m .cmdAt) t i none control
       pub on : Reaches m s′ o′ later store control
 
     pub data OnlyBlock : Type 0 where
       still-inside : StillInside → OnlyBlock
       was-left : LeftSince → OnlyBlock
 
-  -- The step of t with choice i entered the block at node n and led to the store s with the control o. The command that
-  -- moved stood at a place of t. There the command at node n, opened in the chain ch, is entered; and whatever choices
-  -- follow, only it moves until it is left.
-  pub record Sealed (t : Control) (i n : ℕ) (ch : Chain) (s : S) (o : Option Control) : Type 0 where
-    pub node : ℕ
-    pub chain : Chain
-    pub picks : getElem? (movable t) i ≡ some (move node chain)
-    pub around : Around
-    pub stood : t ≡ plug around (command node chain)
-    pub only : (cs : List ℕ) (s′ : S) (o′ : Option Control)
-        → Reaches m s′ o′ cs s o
-        → OnlyBlock around (opened (m .cmdAt n) ch) cs s s′ o′
+  -- The step of t with choice i entered the block whose inside is the command at node n, opened in the chain ch, and led to the
+  -- store s with the control o: whatever choices follow, only the block moves until it is left.
+  abbrev pub Sealed : Control → ℕ → ℕ → Chain → S → Option Control → Type 0
+  Sealed t i n ch s o =
+      (cs : List ℕ) (s′ : S) (o′ : Option Control) → Reaches m s′ o′ cs s o → OnlyBlock t i (opened (m .cmdAt n) ch) cs s s′ o′
 
 -- In this language the step that enters a block is the step of an atom: choice i picks, at a node of its own, an atom
 -- around the command at node n, in the chain ch.

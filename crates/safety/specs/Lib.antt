@@ -1,8 +1,8 @@
 pub mod Inside
+pub mod Numbered
 pub mod Safe
 pub mod Needs
 pub mod Found
-pub mod Numbered
 pub mod Fits
 pub mod Reaches
 pub mod Atoms

@@ -41,18 +41,18 @@ module _ (s : Store) (c : Option Control) (rest ws : List ℕ) (h : Lies s c res
       ∙ ap valueOf (low (valueWord v) (value-small v fits))
       ∙ value-back v fits
 
-  module _ (script : List ℕ)
-      (full : (k : ℕ) (vs : List Value) → getElem? (s .objects) k ≡ some vs → length vs ≡ fieldsOf script) where
-    object-is : (o : ℕ) (vs : List Value) → getElem? (s .objects) o ≡ some vs → objectIn script ws o ≡ vs
+  module _ (img : List ℕ)
+      (full : (k : ℕ) (vs : List Value) → getElem? (s .objects) k ≡ some vs → length vs ≡ fieldsOf img) where
+    object-is : (o : ℕ) (vs : List Value) → getElem? (s .objects) o ≡ some vs → objectIn img ws o ≡ vs
     unfolding objectIn fieldsUpTo
     object-is o vs e =
         let l = full o vs e in
         let few = h .good .objects o vs e .few in
-        ap (listed (fieldIn ws o)) (within 16 (fieldsOf script) (length vs) (sym l) (omega arith))
+        ap (listed (fieldIn ws o)) (within 16 (fieldsOf img) (length vs) (sym l) (omega arith))
         ∙ listed-is vs (fieldIn ws o) (λ i v d. field-is o i vs v e d)
 
-    pub objects-are : objectsIn script ws ≡ s .objects
+    pub objects-are : objectsIn img ws ≡ s .objects
     unfolding objectsIn objectsUpTo
     objects-are =
-        ap (listed (objectIn script ws)) (within 256 (getD ws 1 0) (length (s .objects)) (object-count s c rest ws h) (few-objects s c rest ws h))
-        ∙ listed-is (s .objects) (objectIn script ws) object-is
+        ap (listed (objectIn img ws)) (within 256 (getD ws 1 0) (length (s .objects)) (object-count s c rest ws h) (few-objects s c rest ws h))
+        ∙ listed-is (s .objects) (objectIn img ws) object-is

@@ -11,11 +11,11 @@ use Rattle.report.specs.Listing.{cellLine, fieldLine}
 use Rattle.text.specs.Written.{Line}
 use Rattle.show.specs.Entries.{fieldIn}
 
-pub cell-same : (bytes before after : List ℕ) (k r : ℕ) (f g : Frame) → f ≡ g → Line 128 (cellLine bytes k f) before r after → Line 128 (cellLine bytes k g) before r after
-cell-same bytes before after k r f g e l = subst (λ (x : Frame). Line 128 (cellLine bytes k x) before r after) e l
+pub cell-same : (img before after : List ℕ) (k r : ℕ) (f g : Frame) → f ≡ g → Line 128 (cellLine img k f) before r after → Line 128 (cellLine img k g) before r after
+cell-same img before after k r f g e l = subst (λ (x : Frame). Line 128 (cellLine img k x) before r after) e l
 
 -- the field's word, at its place
-pub field-placed : (bytes ws before after : List ℕ) (o i at r : ℕ) (v : Value) → at ≡ 1027 + (16 * o + i) → v ≡ valueOf (getD ws at 0 % 2 ^ 35)
-    → Line 128 (fieldLine bytes o i v) before r after → Line 128 (fieldLine bytes o i (fieldIn ws o i)) before r after
-field-placed bytes ws before after o i at r v p e l =
-    subst (λ (x : Value). Line 128 (fieldLine bytes o i x) before r after) (e ∙ ap (λ (m : ℕ). valueOf (getD ws m 0 % 2 ^ 35)) p) l
+pub field-placed : (img ws before after : List ℕ) (o i at r : ℕ) (v : Value) → at ≡ 1027 + (16 * o + i) → v ≡ valueOf (getD ws at 0 % 2 ^ 35)
+    → Line 128 (fieldLine img o i v) before r after → Line 128 (fieldLine img o i (fieldIn ws o i)) before r after
+field-placed img ws before after o i at r v p e l =
+    subst (λ (x : Value). Line 128 (fieldLine img o i x) before r after) (e ∙ ap (λ (m : ℕ). valueOf (getD ws m 0 % 2 ^ 35)) p) l

@@ -67,84 +67,84 @@ module _ (at : ℕ) (d : List ℕ) where
         let e : i ≡ steps = omega arith in
         wrote-as (128 * i) (128 * steps) at r _ _ d o w (ap (λ (k : ℕ). flatten (rowLines 1 (rowsIn rows k))) e) (omega arith)
 
-  module _ (script ws : List ℕ) where
+  module _ (img ws : List ℕ) where
     -- ---- cells
 
-    pub cells-none : Wrote (128 * 0) d at (flatten (cellLines script 0 (framesUpTo ws 0))) at d
+    pub cells-none : Wrote (128 * 0) d at (flatten (cellLines img 0 (framesUpTo ws 0))) at d
     unfolding framesUpTo listed cellLines flatten
     cells-none = none-wrote at d
 
-    pub cells-turn : (k next r : ℕ) (e o : List ℕ) → Wrote (128 * k) d at (flatten (cellLines script 0 (framesUpTo ws k))) next e
-        → Wrote 128 e next (cellLine script k (frameIn ws k)) r o
-        → Wrote (128 * (k + 1)) d at (flatten (cellLines script 0 (framesUpTo ws (k + 1)))) r o
+    pub cells-turn : (k next r : ℕ) (e o : List ℕ) → Wrote (128 * k) d at (flatten (cellLines img 0 (framesUpTo ws k))) next e
+        → Wrote 128 e next (cellLine img k (frameIn ws k)) r o
+        → Wrote (128 * (k + 1)) d at (flatten (cellLines img 0 (framesUpTo ws (k + 1)))) r o
     unfolding framesUpTo
     cells-turn k next r e o v w =
         let l = listed-long (frameIn ws) k in
         let z : 0 + length (framesUpTo ws k) ≡ k = omega arith in
         more-wrote (128 * k) 128 (128 * (k + 1)) at next r _ _ _ d e o v w
         (rw (listed-more (frameIn ws) k)
-        (cells-more script (framesUpTo ws k) 0 (frameIn ws k)
-        ∙ ap (λ (j : ℕ). flatten (cellLines script 0 (framesUpTo ws k)) ++ cellLine script j (frameIn ws k)) z))
+        (cells-more img (framesUpTo ws k) 0 (frameIn ws k)
+        ∙ ap (λ (j : ℕ). flatten (cellLines img 0 (framesUpTo ws k)) ++ cellLine img j (frameIn ws k)) z))
         (omega arith)
 
     pub cells-all : (n k r : ℕ) (o : List ℕ) → n ≡ getD ws 0 0 → k ≤ 1024 → upTo 1024 n ≡ k
-        → Wrote (128 * k) d at (flatten (cellLines script 0 (framesUpTo ws k))) r o
-        → Wrote 131072 d at (flatten (cellLines script 0 (framesIn ws))) r o
+        → Wrote (128 * k) d at (flatten (cellLines img 0 (framesUpTo ws k))) r o
+        → Wrote 131072 d at (flatten (cellLines img 0 (framesIn ws))) r o
     unfolding framesIn
     cells-all n k r o e l z w =
-        wrote-as (128 * k) 131072 at r _ _ d o w (ap (λ (j : ℕ). flatten (cellLines script 0 (framesUpTo ws j))) (sym z ∙ ap (upTo 1024) e)) (omega arith)
+        wrote-as (128 * k) 131072 at r _ _ d o w (ap (λ (j : ℕ). flatten (cellLines img 0 (framesUpTo ws j))) (sym z ∙ ap (upTo 1024) e)) (omega arith)
 
     -- ---- the fields of an object
 
     module _ (j : ℕ) where
-      pub fields-none : Wrote (128 * 0) d at (flatten (fieldLines script j 0 (fieldsUpTo ws j 0))) at d
+      pub fields-none : Wrote (128 * 0) d at (flatten (fieldLines img j 0 (fieldsUpTo ws j 0))) at d
       unfolding fieldsUpTo listed fieldLines flatten
       fields-none = none-wrote at d
 
-      pub fields-turn : (i next r : ℕ) (e o : List ℕ) → Wrote (128 * i) d at (flatten (fieldLines script j 0 (fieldsUpTo ws j i))) next e
-          → Wrote 128 e next (fieldLine script j i (fieldIn ws j i)) r o
-          → Wrote (128 * (i + 1)) d at (flatten (fieldLines script j 0 (fieldsUpTo ws j (i + 1)))) r o
+      pub fields-turn : (i next r : ℕ) (e o : List ℕ) → Wrote (128 * i) d at (flatten (fieldLines img j 0 (fieldsUpTo ws j i))) next e
+          → Wrote 128 e next (fieldLine img j i (fieldIn ws j i)) r o
+          → Wrote (128 * (i + 1)) d at (flatten (fieldLines img j 0 (fieldsUpTo ws j (i + 1)))) r o
       unfolding fieldsUpTo
       fields-turn i next r e o v w =
           let l = listed-long (fieldIn ws j) i in
           let z : 0 + length (fieldsUpTo ws j i) ≡ i = omega arith in
           more-wrote (128 * i) 128 (128 * (i + 1)) at next r _ _ _ d e o v w
           (rw (listed-more (fieldIn ws j) i)
-          (fields-more script (fieldsUpTo ws j i) j 0 (fieldIn ws j i)
-          ∙ ap (λ (k : ℕ). flatten (fieldLines script j 0 (fieldsUpTo ws j i)) ++ fieldLine script j k (fieldIn ws j i)) z))
+          (fields-more img (fieldsUpTo ws j i) j 0 (fieldIn ws j i)
+          ∙ ap (λ (k : ℕ). flatten (fieldLines img j 0 (fieldsUpTo ws j i)) ++ fieldLine img j k (fieldIn ws j i)) z))
           (omega arith)
 
       pub fields-all : (n i r : ℕ) (o : List ℕ) → i ≤ 16 → upTo 16 n ≡ i
-          → Wrote (128 * i) d at (flatten (fieldLines script j 0 (fieldsUpTo ws j i))) r o
-          → Wrote 2048 d at (flatten (fieldLines script j 0 (fieldsUpTo ws j (upTo 16 n)))) r o
+          → Wrote (128 * i) d at (flatten (fieldLines img j 0 (fieldsUpTo ws j i))) r o
+          → Wrote 2048 d at (flatten (fieldLines img j 0 (fieldsUpTo ws j (upTo 16 n)))) r o
       fields-all n i r o l z w =
-          wrote-as (128 * i) 2048 at r _ _ d o w (ap (λ (k : ℕ). flatten (fieldLines script j 0 (fieldsUpTo ws j k))) (sym z)) (omega arith)
+          wrote-as (128 * i) 2048 at r _ _ d o w (ap (λ (k : ℕ). flatten (fieldLines img j 0 (fieldsUpTo ws j k))) (sym z)) (omega arith)
 
     -- ---- objects
 
-    pub objects-none : Wrote (2048 * 0) d at (flatten (objectLines script 0 (objectsUpTo script ws 0))) at d
+    pub objects-none : Wrote (2048 * 0) d at (flatten (objectLines img 0 (objectsUpTo img ws 0))) at d
     unfolding objectsUpTo listed objectLines flatten
     objects-none = none-wrote at d
 
-    pub objects-turn : (j F next r : ℕ) (e o : List ℕ) → F ≡ fieldsOf script
-        → Wrote (2048 * j) d at (flatten (objectLines script 0 (objectsUpTo script ws j))) next e
-        → Wrote 2048 e next (flatten (fieldLines script j 0 (fieldsUpTo ws j (upTo 16 F)))) r o
-        → Wrote (2048 * (j + 1)) d at (flatten (objectLines script 0 (objectsUpTo script ws (j + 1)))) r o
+    pub objects-turn : (j F next r : ℕ) (e o : List ℕ) → F ≡ fieldsOf img
+        → Wrote (2048 * j) d at (flatten (objectLines img 0 (objectsUpTo img ws j))) next e
+        → Wrote 2048 e next (flatten (fieldLines img j 0 (fieldsUpTo ws j (upTo 16 F)))) r o
+        → Wrote (2048 * (j + 1)) d at (flatten (objectLines img 0 (objectsUpTo img ws (j + 1)))) r o
     unfolding objectsUpTo objectIn
     objects-turn j F next r e o f v w =
-        let l = listed-long (objectIn script ws) j in
-        let z : 0 + length (objectsUpTo script ws j) ≡ j = omega arith in
-        let same : flatten (fieldLines script j 0 (fieldsUpTo ws j (upTo 16 F))) ≡ flatten (fieldLines script j 0 (objectIn script ws j)) =
-        ap (λ (k : ℕ). flatten (fieldLines script j 0 (fieldsUpTo ws j (upTo 16 k)))) f in
+        let l = listed-long (objectIn img ws) j in
+        let z : 0 + length (objectsUpTo img ws j) ≡ j = omega arith in
+        let same : flatten (fieldLines img j 0 (fieldsUpTo ws j (upTo 16 F))) ≡ flatten (fieldLines img j 0 (objectIn img ws j)) =
+        ap (λ (k : ℕ). flatten (fieldLines img j 0 (fieldsUpTo ws j (upTo 16 k)))) f in
         more-wrote (2048 * j) 2048 (2048 * (j + 1)) at next r _ _ _ d e o v (wrote-as 2048 2048 next r _ _ e o w same (omega arith))
-        (rw (listed-more (objectIn script ws) j)
-        (objects-more script (objectsUpTo script ws j) 0 (objectIn script ws j)
-        ∙ ap (λ (k : ℕ). flatten (objectLines script 0 (objectsUpTo script ws j)) ++ flatten (fieldLines script k 0 (objectIn script ws j))) z))
+        (rw (listed-more (objectIn img ws) j)
+        (objects-more img (objectsUpTo img ws j) 0 (objectIn img ws j)
+        ∙ ap (λ (k : ℕ). flatten (objectLines img 0 (objectsUpTo img ws j)) ++ flatten (fieldLines img k 0 (objectIn img ws j))) z))
         (omega arith)
 
     pub objects-all : (n j r : ℕ) (o : List ℕ) → n ≡ getD ws 1 0 → j ≤ 256 → upTo 256 n ≡ j
-        → Wrote (2048 * j) d at (flatten (objectLines script 0 (objectsUpTo script ws j))) r o
-        → Wrote 524288 d at (flatten (objectLines script 0 (objectsIn script ws))) r o
+        → Wrote (2048 * j) d at (flatten (objectLines img 0 (objectsUpTo img ws j))) r o
+        → Wrote 524288 d at (flatten (objectLines img 0 (objectsIn img ws))) r o
     unfolding objectsIn
     objects-all n j r o e l z w =
-        wrote-as (2048 * j) 524288 at r _ _ d o w (ap (λ (k : ℕ). flatten (objectLines script 0 (objectsUpTo script ws k))) (sym z ∙ ap (upTo 256) e)) (omega arith)
+        wrote-as (2048 * j) 524288 at r _ _ d o w (ap (λ (k : ℕ). flatten (objectLines img 0 (objectsUpTo img ws k))) (sym z ∙ ap (upTo 256) e)) (omega arith)

@@ -23,31 +23,31 @@ five h e r c o =
     ap (λ (l : List ℕ). h ++ l)
     (ap (λ (l : List ℕ). flatten r ++ (e ++ l)) (sym (flatten-append c o)) ∙ sym (flatten-append r (e ∷ (c ++ o))))
 
-pub run-wrote : (script ws rows : List ℕ) (e : End) (n a b c x r : ℕ) (d d₁ d₂ d₃ d₄ o : List ℕ) → 128 * (n + 5122) ≤ length d
+pub run-wrote : (img ws rows : List ℕ) (e : End) (n a b c x r : ℕ) (d d₁ d₂ d₃ d₄ o : List ℕ) → 128 * (n + 5122) ≤ length d
     → Line 128 headerLine d a d₁
     → Wrote (128 * n) d₁ a (flatten (rowLines 1 (rowsIn rows n))) b d₂
     → Wrote 128 d₂ b (endLine e n) c d₃
-    → Wrote 131072 d₃ c (flatten (cellLines script 0 (framesIn ws))) x d₄
-    → Wrote 524288 d₄ x (flatten (objectLines script 0 (objectsIn script ws))) r o
-    → Line (128 * (n + 5122)) (runText script ws rows e n) d r o
+    → Wrote 131072 d₃ c (flatten (cellLines img 0 (framesIn ws))) x d₄
+    → Wrote 524288 d₄ x (flatten (objectLines img 0 (objectsIn img ws))) r o
+    → Line (128 * (n + 5122)) (runText img ws rows e n) d r o
 unfolding runText
-run-wrote script ws rows e n a b c x r d d₁ d₂ d₃ d₄ o room l w₁ w₂ w₃ w₄ =
+run-wrote img ws rows e n a b c x r d d₁ d₂ d₃ d₄ o room l w₁ w₂ w₃ w₄ =
     let R = flatten (rowLines 1 (rowsIn rows n)) in
     let E = endLine e n in
-    let C = flatten (cellLines script 0 (framesIn ws)) in
-    let O = flatten (objectLines script 0 (objectsIn script ws)) in
-    line-of (128 * (n + 5122)) r (runText script ws rows e n) d o
-    (wrote-as (128 + (128 * n + (128 + (131072 + 524288)))) (128 * (n + 5122)) 0 r (headerLine ++ (R ++ (E ++ (C ++ O)))) (runText script ws rows e n) d o
+    let C = flatten (cellLines img 0 (framesIn ws)) in
+    let O = flatten (objectLines img 0 (objectsIn img ws)) in
+    line-of (128 * (n + 5122)) r (runText img ws rows e n) d o
+    (wrote-as (128 + (128 * n + (128 + (131072 + 524288)))) (128 * (n + 5122)) 0 r (headerLine ++ (R ++ (E ++ (C ++ O)))) (runText img ws rows e n) d o
     (both-wrote 128 (128 * n + (128 + (131072 + 524288))) 0 a r headerLine (R ++ (E ++ (C ++ O))) d d₁ o (wrote-of 128 a headerLine d d₁ l (omega arith))
     (both-wrote (128 * n) (128 + (131072 + 524288)) a b r R (E ++ (C ++ O)) d₁ d₂ o w₁
     (both-wrote 128 (131072 + 524288) b c r E (C ++ O) d₂ d₃ o w₂
     (both-wrote 131072 524288 c x r C O d₃ d₄ o w₃ w₄))))
-    (five headerLine E (rowLines 1 (rowsIn rows n)) (cellLines script 0 (framesIn ws)) (objectLines script 0 (objectsIn script ws)))
+    (five headerLine E (rowLines 1 (rowsIn rows n)) (cellLines img 0 (framesIn ws)) (objectLines img 0 (objectsIn img ws)))
     (omega arith))
     room
 
-pub text-is : (bytes ws lent : List ℕ) (rs : List StepRow) (ran : Ran Store) (e : End) (n : ℕ)
-    → rowsIn lent n ≡ rs → framesIn ws ≡ ran .store .frames → objectsIn bytes ws ≡ ran .store .objects → e ≡ ran .end → n ≡ ran .steps
-    → runText bytes ws lent e n ≡ flatten (runLines bytes rs ran)
+pub text-is : (img ws lent : List ℕ) (rs : List StepRow) (ran : Ran Store) (e : End) (n : ℕ)
+    → rowsIn lent n ≡ rs → framesIn ws ≡ ran .store .frames → objectsIn img ws ≡ ran .store .objects → e ≡ ran .end → n ≡ ran .steps
+    → runText img ws lent e n ≡ flatten (runLines img rs ran)
 unfolding runText runLines
-text-is bytes ws lent rs ran e n r f o i j = rw (r, f, o, i, j)
+text-is img ws lent rs ran e n r f o i j = rw (r, f, o, i, j)

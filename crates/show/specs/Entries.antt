@@ -59,20 +59,20 @@ fieldsUpTo ws o n = listed (fieldIn ws o) n
 
 -- every object has the script's fields
 unfoldable pub objectIn : List ℕ → List ℕ → ℕ → List Value
-objectIn script ws o = fieldsUpTo ws o (upTo 16 (fieldsOf script))
+objectIn img ws o = fieldsUpTo ws o (upTo 16 (fieldsOf img))
 
 -- the first n objects
 unfoldable pub objectsUpTo : List ℕ → List ℕ → ℕ → List (List Value)
-objectsUpTo script ws n = listed (objectIn script ws) n
+objectsUpTo img ws n = listed (objectIn img ws) n
 
 unfoldable pub objectsIn : List ℕ → List ℕ → List (List Value)
-objectsIn script ws = objectsUpTo script ws (upTo 256 (getD ws 1 0))
+objectsIn img ws = objectsUpTo img ws (upTo 256 (getD ws 1 0))
 
 -- ---- the text of a run of an accepted script: the listing's order, over what the words say
 
 unfoldable pub runText : List ℕ → List ℕ → List ℕ → End → ℕ → List ℕ
-runText script ws rows e steps =
+runText img ws rows e steps =
     flatten
     (headerLine
     ∷ (rowLines 1 (rowsIn rows steps)
-    ++ (endLine e steps ∷ (cellLines script 0 (framesIn ws) ++ objectLines script 0 (objectsIn script ws)))))
+    ++ (endLine e steps ∷ (cellLines img 0 (framesIn ws) ++ objectLines img 0 (objectsIn img ws)))))

@@ -5,22 +5,22 @@ use super::{RawAnswer, RawVerdict};
 
 extern "C" {
     fn flagcopper_size() -> usize;
-    fn flagcopper_check(script: *const u8, len: usize, workspace_words: usize) -> RawVerdict;
+    fn flagcopper_check(script: *const u8, script_bytes: usize, workspace_words: usize) -> RawVerdict;
     fn flagcopper_run(
         script: *const u8,
-        len: usize,
+        script_bytes: usize,
         choices: *const u8,
-        n: usize,
+        count: usize,
         workspace: *mut u64,
-        words: usize,
+        workspace_words: usize,
     ) -> RawAnswer;
     fn flagcopper_trace(
         script: *const u8,
-        len: usize,
+        script_bytes: usize,
         choices: *const u8,
-        n: usize,
+        count: usize,
         workspace: *mut u64,
-        words: usize,
+        workspace_words: usize,
         rows: *mut u32,
         row_words: usize,
     ) -> RawAnswer;

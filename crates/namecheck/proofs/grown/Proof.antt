@@ -38,35 +38,35 @@ enum-told-8 c = search needs
 
 returns : tie.Need-returns
 unfolding growWord
-returns c = λ Γ h. rw (c .enum-told .given .1) h
+returns c = λ visible h. rw (c .enum-told .given .1) h
 
 returns-2 : tie.Need-returns-2
 unfolding growWord
-returns-2 c = λ Γ h. rw (c .enum-told2 .given .1) h
+returns-2 c = λ visible h. rw (c .enum-told2 .given .1) h
 
 returns-3 : tie.Need-returns-3
 unfolding growWord
-returns-3 c = λ Γ h. rw (c .enum-told3 .given .1) h
+returns-3 c = λ visible h. rw (c .enum-told3 .given .1) h
 
 returns-4 : tie.Need-returns-4
 unfolding growWord
-returns-4 c = λ Γ h. rw (c .enum-told4 .given .1) h
+returns-4 c = λ visible h. rw (c .enum-told4 .given .1) h
 
 returns-5 : tie.Need-returns-5
 unfolding growWord
-returns-5 c = λ Γ h. rw (c .before .enum-told5 .given .1) (c .also .ensures Γ h)
+returns-5 c = λ visible h. rw (c .before .enum-told5 .given .1) (c .also .ensures visible h)
 
 returns-6 : tie.Need-returns-6
 unfolding growWord
-returns-6 c = λ Γ h. rw (c .enum-told6 .given .1) h
+returns-6 c = λ visible h. rw (c .enum-told6 .given .1) h
 
 returns-7 : tie.Need-returns-7
 unfolding growWord
-returns-7 c = λ Γ h. rw (c .enum-told7 .given .1) h
+returns-7 c = λ visible h. rw (c .enum-told7 .given .1) h
 
 returns-8 : tie.Need-returns-8
 unfolding growWord
-returns-8 c = λ Γ h. rw (c .enum-told8 .given .1) h
+returns-8 c = λ visible h. rw (c .enum-told8 .given .1) h
 
 pub grown-spec : {M : Type 1} → statement M
 grown-spec =

@@ -39,35 +39,35 @@ enum-told-8 c = search needs
 
 returns : tie.Need-returns
 unfolding strayWord
-returns c = λ Γ h. rw (c .enum-told .given .1)
+returns c = λ visible h. rw (c .enum-told .given .1)
 
 returns-2 : tie.Need-returns-2
 unfolding strayWord
-returns-2 c = λ Γ h. rw (c .enum-told2 .given .1)
+returns-2 c = λ visible h. rw (c .enum-told2 .given .1)
 
 returns-3 : tie.Need-returns-3
 unfolding strayWord
-returns-3 c = λ Γ h. rw (c .enum-told3 .given .1)
+returns-3 c = λ visible h. rw (c .enum-told3 .given .1)
 
 returns-4 : tie.Need-returns-4
 unfolding strayWord
-returns-4 c = λ Γ h. rw (c .before .enum-told4 .given .1) (ap not (c .seen .ensures Γ h))
+returns-4 c = λ visible h. rw (c .before .enum-told4 .given .1) (ap not (c .seen .ensures visible h))
 
 returns-5 : tie.Need-returns-5
 unfolding strayWord
-returns-5 c = λ Γ h. rw (c .enum-told5 .given .1)
+returns-5 c = λ visible h. rw (c .enum-told5 .given .1)
 
 returns-6 : tie.Need-returns-6
 unfolding strayWord
-returns-6 c = λ Γ h. rw (c .enum-told6 .given .1)
+returns-6 c = λ visible h. rw (c .enum-told6 .given .1)
 
 returns-7 : tie.Need-returns-7
 unfolding strayWord
-returns-7 c = λ Γ h. rw (c .enum-told7 .given .1)
+returns-7 c = λ visible h. rw (c .enum-told7 .given .1)
 
 returns-8 : tie.Need-returns-8
 unfolding strayWord
-returns-8 c = λ Γ h. rw (c .enum-told8 .given .1)
+returns-8 c = λ visible h. rw (c .enum-told8 .given .1)
 
 pub stray-spec : {M : Type 1} → statement M
 stray-spec =
