@@ -93,8 +93,8 @@ flagcopper_told flagcopper_trace(const uint8_t *script, size_t script_bytes, con
 /* ---- the state, read back from the words of a run (docs/WORKSPACE.md)
  *
  * Words 0, 1 and 2 count frames, objects and parts of control; from word 3 on a word for each of 1,024 frames, from 1,027
- * on 16 words for each of 256 objects, from 5,123 on a word for each of 255 parts. Frames and objects stand in the order
- * in which they were made, parts in preorder. Unused words are zero. Ask only below the counts. */
+ * on 16 words for each of 256 objects, from 5,123 on a word for each of 255 parts, in preorder. A frame and an object
+ * keep their number as long as they are there. Unused words are zero. Ask only below the counts. */
 
 static inline uint64_t flagcopper_frames(const uint64_t *workspace) { return workspace[0]; }
 static inline uint64_t flagcopper_objects(const uint64_t *workspace) { return workspace[1]; }

@@ -26,21 +26,21 @@ use Rattle.deeds.specs.Deeds.{Out, Does, Not, Callee, Held, NotHeld, Tar
 -- ---- assign
 
 module _ (p : Ev) (f : Found) where
-  pub assign-does : (v : Value) (k : ℕ) → p ≡ Is v → f ≡ At k → Does (SetCell k v) Ended ≡ outOf (assigning (resOf p) (foundOf f))
+  pub assign-does : (k : ℕ) (v : Value) → f ≡ At k → p ≡ Is v → Does (SetCell k v) Ended ≡ outOf (assigning (foundOf f) (resOf p))
   unfolding assigning _>>=_ there
-  assign-does v k e g = rw (e, g)
+  assign-does k v g e = rw (g, e)
 
-  pub assign-lost : (v : Value) → p ≡ Is v → f ≡ Missing → Not NoRule ≡ outOf (assigning (resOf p) (foundOf f))
+  pub assign-lost : f ≡ Missing → Not NoRule ≡ outOf (assigning (foundOf f) (resOf p))
   unfolding assigning _>>=_ there
-  assign-lost v e g = rw (e, g)
+  assign-lost g = rw g
 
-  pub assign-faults : (k n : ℕ) → p ≡ Bad k n → Not (Faulted k n) ≡ outOf (assigning (resOf p) (foundOf f))
-  unfolding assigning _>>=_
-  assign-faults k n e = rw e
+  pub assign-faults : (j k n : ℕ) → f ≡ At j → p ≡ Bad k n → Not (Faulted k n) ≡ outOf (assigning (foundOf f) (resOf p))
+  unfolding assigning _>>=_ there
+  assign-faults j k n g e = rw (g, e)
 
-  pub assign-stuck : p ≡ Lost → Not NoRule ≡ outOf (assigning (resOf p) (foundOf f))
-  unfolding assigning _>>=_
-  assign-stuck e = rw e
+  pub assign-stuck : (j : ℕ) → f ≡ At j → p ≡ Lost → Not NoRule ≡ outOf (assigning (foundOf f) (resOf p))
+  unfolding assigning _>>=_ there
+  assign-stuck j g e = rw (g, e)
 
 pub ruleset assigns = (assign-does, assign-lost, assign-faults, assign-stuck)
 

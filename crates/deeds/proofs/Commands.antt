@@ -173,7 +173,7 @@ module _ (img ws : List ℕ) (ch : Chain) (n : ℕ) (x : Node) (w : At img n x) 
         }
 
     pub does-assign : (p : Ev) (f : Found) → x .tag ≡ 35 → Evals img ws ch (x .b) p → FindSays (x .a) ch f ws
-        → r ≡ outOf (assigning (resOf p) (foundOf f)) → ExecSays img n ch r ws
+        → r ≡ outOf (assigning (foundOf f) (resOf p)) → ExecSays img n ch r ws
     unfolding exec assigning rowOf rowIn tags
     does-assign p f t v q e =
         let fs = row-fits img n x w g h 35 t in
@@ -182,8 +182,8 @@ module _ (img ws : List ℕ) (ch : Chain) (n : ℕ) (x : Node) (w : At img n x) 
         record {
           says = λ s o rest l.
               e
-              ∙ ap (λ (k : Option ℕ). outOf (assigning (resOf p) k)) (q s o rest l)
-              ∙ ap (λ (k : Res Value). outOf (assigning k (find (s .frames) (x .a) ch))) (v .says s o rest l)
+              ∙ ap (λ (k : Option ℕ). outOf (assigning k (resOf p))) (q s o rest l)
+              ∙ ap (λ (k : Res Value). outOf (assigning (find (s .frames) (x .a) ch) k)) (v .says s o rest l)
               ∙ ap (λ (c : Cmd). outOf (exec (scriptOf img) s ch c)) (sym c);
         }
 

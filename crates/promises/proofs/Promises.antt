@@ -312,7 +312,7 @@ module _ (img : List ℕ) (are-bytes : Bytes img) (words : ℕ) (accepts : Accep
     held-procedure-has-its-frame n = SafeUsed.held-procedure-has-its-frame words img are-bytes is-accepted choices s o at n
 
     pub outer-frame-exists : (k j : ℕ) (f : Frame) → getElem? (s .frames) k ≡ some f → f .outer ≡ From j → (g : Frame) × (getElem? (s .frames) j ≡ some g)
-    outer-frame-exists = SafeUsed.outer-frame-exists words img are-bytes is-accepted choices s o at
+    outer-frame-exists = Demand3.outer-frame-exists words img are-bytes is-accepted choices s o at
 
     -- .. of one of the kinds 1 to 6: zero is the kind of nothing
     pub held-kind-is-not-zero : (v : Value) → HeldIn s v → OneTo 6 (kindNo v)

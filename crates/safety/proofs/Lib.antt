@@ -1,3 +1,4 @@
+pub mod Chains
 pub mod Links
 pub mod LinksNeeded
 pub mod Fine
@@ -30,6 +31,7 @@ pub mod ReachesMoments
 pub mod MomentsUsed
 pub mod Accepted
 pub mod Demand3
+pub mod AssignOrder
 pub mod Zero
 pub mod NotVacuous
 pub mod SafeUsed

@@ -46,7 +46,7 @@ module _ (sc : Script) (root : ℕ) (cs : List ℕ) (fit : FitCmd sc [] (sc .cmd
       → Borne (s .frames) ch x
   needed-found s t y i n ch x p h =
       let safe : Safe sc s (some t) = moment-safe s (some t) y in
-      names-found sc s (safe .store) n ch x (ready-at sc s t safe i n ch p .seen) h
+      names-found sc (s .frames) n ch x (ready-at sc s t safe i n ch p .seen) h
 
   -- Every object and procedure held anywhere exists; and nothing is never held.
   pub held-real : (s : Store) (o : Option Control)

@@ -52,8 +52,8 @@ module _ (sc : Script) (s : Store) (good : StoreFits sc s) (visible : Names) (ch
   fine-single (malloc n x) t h b =
       fine-bind sc (λ k. k < length (s .frames)) Any (there (find (s .frames) x ch)) _ (fine-find sc s ch x (b x (eqb-refl x))) λ k _. tt
   fine-single (assign n x e) t h b =
-      fine-bind sc Held Any (eval s ch e) _ (fine-exp e (h .2) (second (s .frames) ch (eqb x) (needsExp e) b)) λ v _.
-      fine-bind sc (λ k. k < length (s .frames)) Any (there (find (s .frames) x ch)) _ (fine-find sc s ch x (first (s .frames) ch (eqb x) (needsExp e) b x (eqb-refl x))) λ k _. tt
+      fine-bind sc (λ k. k < length (s .frames)) Any (there (find (s .frames) x ch)) _ (fine-find sc s ch x (first (s .frames) ch (eqb x) (needsExp e) b x (eqb-refl x))) λ k _.
+      fine-bind sc Held Any (eval s ch e) _ (fine-exp e (h .2) (second (s .frames) ch (eqb x) (needsExp e) b)) λ v _. tt
   fine-single (assignField n a e c) t h b =
       let both : Bear (s .frames) ch (λ x. needsExp a x || needsExp e x) = first (s .frames) ch (λ x. needsExp a x || needsExp e x) (needsExp c) b in
       fine-bind sc Held Any (eval s ch a) _ (fine-exp a (h .1) (first (s .frames) ch (needsExp a) (needsExp e) both)) λ v p.
