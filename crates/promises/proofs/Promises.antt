@@ -94,8 +94,8 @@ verdict-numbers-decide-it = verdict-numbers-decide
 -- "Hand it a script file of arbitrary bytes and an arbitrary list of choices: it ends, with one of the numbered results"
 
 -- check: no number where the script is accepted, or a refusal 1 to 10
-pub demand-1-verdict : (img : List ℕ) → Bytes img → (words : ℕ) (v : Verdict) → Checks img words v → VerdictNumbered (verdictNumbers v)
-demand-1-verdict img b words v c = subst (λ (w : Verdict). VerdictNumbered (verdictNumbers w)) (sym (c .verdict)) (no-verdict-is-zero words img b)
+pub demand-1-verdict : (img : List ℕ) (words : ℕ) (v : Verdict) → Checks img words v → VerdictNumbered (verdictNumbers v)
+demand-1-verdict img words v c = subst (λ (w : Verdict). VerdictNumbered (verdictNumbers w)) (sym (c .verdict)) (no-verdict-is-zero words img)
 
 -- the numbers of the tables: ten refusals, seven faults, three rooms
 pub ten-refusals : (k : ℕ) → ARefusal k ↔ OneTo 10 k

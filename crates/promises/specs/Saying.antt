@@ -1,17 +1,16 @@
 -- The words in which the promises are said: an answer by document 01's numbers (`Numbers` of the rules), acceptance, the start
 -- of a run, and its moments. Assumes nothing.
-use Prim.Native.Nat.{ℕ}
+use Prim.Native.Nat.{ℕ, _<_, _≤_}
 use mathlib.Core.Path.{_≡_}
 use mathlib.Core.Option.{Option}
 use mathlib.Core.List.{List, [], _∷_, _++_}
 use Rattle.rules.specs.declared.Answer.{Answer}
-use Rattle.rules.specs.State.{Store, empty}
+use Rattle.rules.specs.State.{Store, empty, mostParts}
 use Rattle.rules.specs.Script.{rootOf}
 use Rattle.rules.specs.Refusals.{check}
-use Rattle.rules.specs.Control.{Control}
-use Rattle.rules.specs.Run.{machine}
+use Rattle.rules.specs.Control.{Control, parts}
+use Rattle.rules.specs.Run.{machine, start}
 use Rattle.rules.specs.Numbers.{verdictNumbers, refusedWith, endedWith, answerNumbers}
-use Rattle.safety.specs.Reaches as Reaches
 use Rattle.safety.specs.Reaches.{Moment}
 
 -- the answer is the refusal k at place p
@@ -28,10 +27,10 @@ Accepts words img = verdictNumbers (check words img) ≡ []
 
 -- the start needs no part past the limit; or it does
 abbrev pub StartFits : List ℕ → Type 0
-StartFits img = Reaches.StartFits (machine img) (rootOf img)
+StartFits img = parts (start img) ≤ mostParts
 
 abbrev pub StartTooLarge : List ℕ → Type 0
-StartTooLarge img = Reaches.StartTooLarge (machine img) (rootOf img)
+StartTooLarge img = mostParts < parts (start img)
 
 -- a moment of the run, from the start to the stop: this store, and this control
 abbrev pub At : List ℕ → List ℕ → Store → Option Control → Type 0

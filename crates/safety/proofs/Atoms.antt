@@ -16,7 +16,7 @@ use Rattle.rules.specs.declared.Stop.{Stop}
 use Rattle.rules.specs.declared.Stop.the-variants.{Full, OutOfRange}
 use Rattle.rules.specs.Control.{Control, fits, entered, opened, Move, move, movable, Outcome, goesTo, stops}
 use Rattle.rules.specs.Step.{remains, put, Machine, Plan, does, refuses, judged, chosen, plan, follow, step}
-use Rattle.safety.specs.Inside.{Nested}
+use Rattle.safety.specs.Safe.{Nested}
 use Rattle.rules.proofs.Around.{Around, plug, fill, Quiet}
 use Rattle.safety.specs.Reaches.{Reaches, stays, goes}
 use Rattle.safety.specs.Atoms.{Becomes, OnlyBlock, still-inside, was-left, Sealed}

@@ -78,12 +78,13 @@ h-to-end : Reaches machine (holding 0) none (0 ∷ 0 ∷ 0 ∷ []) (holding 0) (
 unfolding opens
 h-to-end = goes refl (goes refl (goes refl stays))
 
--- after the first, the atom stands where it stood, around what is left of it, beside the neighbour
+-- after the first, x is as the block alone left it, and the atom stands where it stood, around what is left of it
 second-in-place : Becomes (machine .cmdAt) before 0 (some (entered (at 9))) (some (beside (entered (at 9)) (at 14)))
 unfolding atomIn leftMoves
 second-in-place = left-goes-on refl (the-command refl)
 
-pub h-stands : (s : Store) (o : Option Control) → Reaches machine s o (0 ∷ []) (holding 0) (some after) → o ≡ some (beside (entered (at 9)) (at 14))
+pub h-stands : (s : Store) (o : Option Control) → Reaches machine s o (0 ∷ []) (holding 0) (some after)
+    → (s ≡ holding 1) × (o ≡ some (beside (entered (at 9)) (at 14)))
 unfolding opens
 h-stands =
     block-stands machine before 0 10 (From 0) (holding 0) (some after) h-sealed (0 ∷ []) (holding 1) (at 9) first-alone

@@ -15,7 +15,7 @@ use Rattle.rules.specs.State.{Store}
 use Rattle.rules.specs.Script.{Script, Procedure, formal}
 use Rattle.rules.specs.Eval.{Res, ok, fault, stuck, _>>=_, Closure, closure, eval}
 use Rattle.rules.specs.Control.{Control, move, movable, goesTo}
-use Rattle.safety.specs.Inside.{Nested}
+use Rattle.safety.specs.Safe.{Nested}
 use Rattle.rules.specs.Step.{does, step, Deed, deed, enter, calling, exec, miniOO}
 use Rattle.safety.specs.Atoms.{Sealed, AtomMoves}
 use Rattle.safety.proofs.Plans.{Does}

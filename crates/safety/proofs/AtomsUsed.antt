@@ -107,17 +107,18 @@ module _ {S E : Type 0} (m : Machine S E) where
             (subst (λ l. Reaches m s₁ (some v) l s (some u)) (y .is) a)
             )
 
-    -- so control is what the rules for control make of the atom around what is left of it, in its place, and nothing else
+    -- so the store is the block's own, and control what the rules for control make of the atom around what is left of it, in its
+    -- place, and nothing else
     pub block-stands : (cs : List ℕ) (s₁ : S) (v : Control)
         → Reaches m s₁ (some v) cs s (some (opened (m .cmdAt n) ch))
         → (o₁ : Option Control)
         → Becomes (m .cmdAt) t i (some (entered v)) o₁
         → (s′ : S) (o′ : Option Control)
         → Reaches m s′ o′ cs s o
-        → o′ ≡ o₁
+        → (s′ ≡ s₁) × (o′ ≡ o₁)
     block-stands cs s₁ v a o₁ placed s′ o′ r =
         let y = block-open cs s₁ v a s′ o′ r in
-        y .is ∙ becomes-once (m .cmdAt) t i (some (entered v)) (y .stands) placed
+        (y .store, y .is ∙ becomes-once (m .cmdAt) t i (some (entered v)) (y .stands) placed)
 
     -- at once: the block's inside, opened, stands entered in place of the command that moved
     pub block-entered : (t′ : Control) → o ≡ some t′ → Becomes (m .cmdAt) t i (some (entered (opened (m .cmdAt n) ch))) (some t′)

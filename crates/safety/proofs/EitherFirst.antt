@@ -10,7 +10,7 @@ use lib.ListN.{length}
 use lib.Dec.{T, ltb}
 use Rattle.rules.specs.Syntax.{Cmd}
 use Rattle.rules.specs.Control.{Control, command, followed, beside, entered, atomIn, among, Move, move, movable}
-use Rattle.safety.specs.Inside.{Nested}
+use Rattle.safety.specs.Safe.{Nested}
 use Rattle.rules.specs.Step.{Side, inLeft, inRight, side, andThen, both, put}
 
 -- `among`, asking the left tree before the right one

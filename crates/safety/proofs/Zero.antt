@@ -38,21 +38,9 @@ use Rattle.safety.proofs.Demand3.{At, always-safe, run-ends-as-said}
 
 -- ---- every answer
 
-module _ (words : ℕ) (img : List ℕ) (are-bytes : Bytes img) where
-  -- an accepted script's end has a number
-  pub no-end-is-zero : check words img ≡ Accepted → (choices : List ℕ) → OneTo 5 (endNo (runScript img choices .end))
-  no-end-is-zero ok choices = one-of-five (nodesOf img) _ _ (run-ends-as-said words img are-bytes ok choices)
-
+module _ (words : ℕ) (img : List ℕ) where
   refusal-of-the-table : (k p : ℕ) → check words img ≡ Refused k p → ARefusal k
   refusal-of-the-table k p e = let f = refused-only words img k p e in (f .reason, f .number)
-
-  pub no-answer-is-zero : (choices : List ℕ) → Numbered (nodesOf img) (answerNumbers (answerOf words img choices))
-  unfolding answerOf answered answerNumbers
-  no-answer-is-zero choices = go (check words img) refl
-    where
-      go : (v : Verdict) → check words img ≡ v → Numbered (nodesOf img) (answerNumbers (answered v (runScript img choices)))
-      go Accepted e = ending (runScript img choices .steps) (run-ends-as-said words img are-bytes e choices)
-      go (Refused k p) e = refusal (refusal-of-the-table k p e)
 
   pub no-verdict-is-zero : VerdictNumbered (verdictNumbers (check words img))
   unfolding verdictNumbers
@@ -61,6 +49,19 @@ module _ (words : ℕ) (img : List ℕ) (are-bytes : Bytes img) where
       go : (v : Verdict) → check words img ≡ v → VerdictNumbered (verdictNumbers v)
       go Accepted e = accepted
       go (Refused k p) e = refused (refusal-of-the-table k p e)
+
+module _ (words : ℕ) (img : List ℕ) (are-bytes : Bytes img) where
+  -- an accepted script's end has a number
+  pub no-end-is-zero : check words img ≡ Accepted → (choices : List ℕ) → OneTo 5 (endNo (runScript img choices .end))
+  no-end-is-zero ok choices = one-of-five (nodesOf img) _ _ (run-ends-as-said words img are-bytes ok choices)
+
+  pub no-answer-is-zero : (choices : List ℕ) → Numbered (nodesOf img) (answerNumbers (answerOf words img choices))
+  unfolding answerOf answered answerNumbers
+  no-answer-is-zero choices = go (check words img) refl
+    where
+      go : (v : Verdict) → check words img ≡ v → Numbered (nodesOf img) (answerNumbers (answered v (runScript img choices)))
+      go Accepted e = ending (runScript img choices .steps) (run-ends-as-said words img are-bytes e choices)
+      go (Refused k p) e = refusal (refusal-of-the-table words img k p e)
 
 -- ---- an accepted script
 

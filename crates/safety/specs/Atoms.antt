@@ -1,6 +1,6 @@
 -- Atomic blocks in runs (demand 3: "From the step that enters an atomic block to the step that leaves it, only that
 -- block moves"), for any machine, nested blocks included. A block is entered by a step that leaves an entered atom in
--- place of the command that moved; it is inside while that atom stands there, around what is left of it; it is left
+-- place of the command that moved; it is open while that atom stands there, around what is left of it; it is left
 -- with the last step of its inside, when nothing stands there. Only it moves: the same choices are a run of
 -- the block ALONE, all around stays, and no other command is movable. Assumes nothing.
 use Prim.Native.Nat.{ℕ}
@@ -24,8 +24,8 @@ pub record Innermost (t : Control) : Type 0 where
   pub stands : EnteredIn inner t
   pub calm : atomIn inner ≡ false
 
--- With p in place of the command that choice i names, control t becomes o: the rules for control say so of a command that comes
--- to p and has no store.
+-- Control t, with p in place of the command that choice i names, is o, by the rules for control: that command's step is taken to leave
+-- p, and no store plays a part.
 abbrev pub Becomes : (ℕ → Cmd) → Control → ℕ → Option Control → Option Control → Type 0
 Becomes cmdAt t i p o = ComesTo {S = Unit {0}} cmdAt (λ n ch out. out ≡ goesTo tt p) t i (goesTo tt o)
 
