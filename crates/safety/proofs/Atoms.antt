@@ -19,7 +19,7 @@ use Rattle.rules.specs.Step.{remains, put, Machine, Plan, does, refuses, judged
 use Rattle.safety.specs.Safe.{Nested}
 use Rattle.rules.proofs.Around.{Around, plug, fill, Quiet}
 use Rattle.safety.specs.Reaches.{Reaches, stays, goes}
-use Rattle.safety.specs.Atoms.{Becomes, OnlyBlock, still-inside, was-left, Sealed}
+use Rattle.safety.specs.Atoms.{InPlace, OnlyBlock, still-inside, was-left, Sealed}
 use Rattle.safety.proofs.Becoming.{put-becomes}
 use Rattle.safety.proofs.Focus.{Focus, focus}
 use Rattle.safety.proofs.AtomsInside.{moves-inside, puts-inside, fill-some, fits-inside}
@@ -116,7 +116,7 @@ module _ {S E : Type 0} (m : Machine S E) where
         )
 
     -- C is what stands around the place of the command that entered
-    module _ (C : Around) (q : Quiet C) (place : (p : Option Control) → Becomes (m .cmdAt) t₀ i₀ p (fill (m .cmdAt) C p)) where
+    module _ (C : Around) (q : Quiet C) (place : (p : Option Control) → InPlace (m .cmdAt) t₀ i₀ p (fill (m .cmdAt) C p)) where
       pub atom-run : (s′ : S) (o′ : Option Control) (cs : List ℕ) (s : S) (o : Option Control)
           → Reaches m s′ o′ cs s o
           → (u : Control)
@@ -130,7 +130,7 @@ module _ {S E : Type 0} (m : Machine S E) where
             alone = stays;
             control = plug C (entered u);
             is = e;
-            stands = subst (Becomes (m .cmdAt) t₀ i₀ (some (entered u))) (fill-some (m .cmdAt) C (entered u)) (place (some (entered u)));
+            stands = subst (InPlace (m .cmdAt) t₀ i₀ (some (entered u))) (fill-some (m .cmdAt) C (entered u)) (place (some (entered u)));
             others-wait = moves-inside C u q;
           }
           )
@@ -154,7 +154,7 @@ module _ {S E : Type 0} (m : Machine S E) where
                 store = s₁;
                 alone = goes a stays;
                 control = o;
-                closed = subst (Becomes (m .cmdAt) t₀ i₀ none) (sym c) (place none);
+                closed = subst (InPlace (m .cmdAt) t₀ i₀ none) (sym c) (place none);
                 on = r;
               }
               )
@@ -198,6 +198,6 @@ module _ {S E : Type 0} (m : Machine S E) where
       let k : put (m .cmdAt) t i (some (entered u)) ≡ o₁ = cc in
       let w : o₁ ≡ some (plug (f .around) (entered u)) =
       sym k ∙ f .filled (some (entered u)) ∙ fill-some (m .cmdAt) (f .around) (entered u) in
-      let place : (a : Option Control) → Becomes (m .cmdAt) t i a (fill (m .cmdAt) (f .around) a) =
-      λ a. subst (Becomes (m .cmdAt) t i a) (f .filled a) (put-becomes (m .cmdAt) t i a (p .node) (p .chain) (p .is)) in
+      let place : (a : Option Control) → InPlace (m .cmdAt) t i a (fill (m .cmdAt) (f .around) a) =
+      λ a. subst (InPlace (m .cmdAt) t i a) (f .filled a) (put-becomes (m .cmdAt) t i a (p .node) (p .chain) (p .is)) in
       λ cs s′ o′ r. atom-run t i (f .around) (f .quiet) place s′ o′ cs s₁ o₁ r u w

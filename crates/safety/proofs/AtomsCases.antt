@@ -21,7 +21,7 @@ use Rattle.rules.proofs.Opens.{opens}
 use Rattle.rules.proofs.Cases.{inAtom}
 use Rattle.rules.proofs.CasesControl.{nestedAtoms, rightAtom}
 use Rattle.safety.specs.Reaches.{Reaches, stays, goes}
-use Rattle.safety.specs.Atoms.{Innermost, Becomes, Sealed, AtomMoves}
+use Rattle.safety.specs.Atoms.{Innermost, InPlace, Sealed, AtomMoves}
 use Rattle.safety.specs.Inside.{is-entered, in-left, in-entered}
 use Rattle.safety.proofs.AtomsNodes.{only-that-atom-moves}
 use Rattle.safety.proofs.Entered.{innermost-once, never-the-outer}
@@ -56,7 +56,7 @@ abbrev after : Control
 after = beside (entered block) (at 14)
 
 -- with nothing in place of the atom, its neighbour stands alone
-neighbour-alone : Becomes (machine .cmdAt) before 0 none (some (at 14))
+neighbour-alone : InPlace (machine .cmdAt) before 0 none (some (at 14))
 unfolding atomIn leftMoves
 neighbour-alone = left-ends refl (the-command refl)
 
@@ -79,7 +79,7 @@ unfolding opens
 h-to-end = goes refl (goes refl (goes refl stays))
 
 -- after the first, x is as the block alone left it, and the atom stands where it stood, around what is left of it
-second-in-place : Becomes (machine .cmdAt) before 0 (some (entered (at 9))) (some (beside (entered (at 9)) (at 14)))
+second-in-place : InPlace (machine .cmdAt) before 0 (some (entered (at 9))) (some (beside (entered (at 9)) (at 14)))
 unfolding atomIn leftMoves
 second-in-place = left-goes-on refl (the-command refl)
 

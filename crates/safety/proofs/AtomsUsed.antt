@@ -11,7 +11,7 @@ use Rattle.rules.specs.declared.Chain.{Chain}
 use Rattle.rules.specs.Control.{Control, entered, opened, Move, movable, goesTo}
 use Rattle.rules.specs.Step.{Machine, step}
 use Rattle.safety.specs.Reaches.{Reaches, stays, goes}
-use Rattle.safety.specs.Atoms.{Becomes, OnlyBlock, still-inside, was-left, Sealed}
+use Rattle.safety.specs.Atoms.{InPlace, OnlyBlock, still-inside, was-left, Sealed}
 use Rattle.safety.proofs.Becoming.{becomes-once}
 use Rattle.safety.proofs.Reaches.{Between, reach-on, reach-split, reach-same}
 
@@ -73,7 +73,7 @@ module _ {S E : Type 0} (m : Machine S E) where
     pub store : s′ ≡ s₁
     pub control : Control
     pub is : o′ ≡ some control
-    pub stands : Becomes (m .cmdAt) t i (some (entered v)) (some control)
+    pub stands : InPlace (m .cmdAt) t i (some (entered v)) (some control)
     pub others-wait : movable control ≡ movable v
 
   module _ (t : Control) (i n : ℕ) (ch : Chain) (s : S) (o : Option Control) (only : Sealed m t i n ch s o) where
@@ -97,7 +97,7 @@ module _ {S E : Type 0} (m : Machine S E) where
               store = same .0;
               control = y .control;
               is = y .is;
-              stands = subst (λ w. Becomes (m .cmdAt) t i (some (entered w)) (some (y .control))) same-inner (y .stands);
+              stands = subst (λ w. InPlace (m .cmdAt) t i (some (entered w)) (some (y .control))) same-inner (y .stands);
               others-wait = subst (λ w. movable (y .control) ≡ movable w) same-inner (y .others-wait);
             }
         go (was-left y) =
@@ -112,7 +112,7 @@ module _ {S E : Type 0} (m : Machine S E) where
     pub block-stands : (cs : List ℕ) (s₁ : S) (v : Control)
         → Reaches m s₁ (some v) cs s (some (opened (m .cmdAt n) ch))
         → (o₁ : Option Control)
-        → Becomes (m .cmdAt) t i (some (entered v)) o₁
+        → InPlace (m .cmdAt) t i (some (entered v)) o₁
         → (s′ : S) (o′ : Option Control)
         → Reaches m s′ o′ cs s o
         → (s′ ≡ s₁) × (o′ ≡ o₁)
@@ -121,10 +121,10 @@ module _ {S E : Type 0} (m : Machine S E) where
         (y .store, y .is ∙ becomes-once (m .cmdAt) t i (some (entered v)) (y .stands) placed)
 
     -- at once: the block's inside, opened, stands entered in place of the command that moved
-    pub block-entered : (t′ : Control) → o ≡ some t′ → Becomes (m .cmdAt) t i (some (entered (opened (m .cmdAt n) ch))) (some t′)
+    pub block-entered : (t′ : Control) → o ≡ some t′ → InPlace (m .cmdAt) t i (some (entered (opened (m .cmdAt n) ch))) (some t′)
     block-entered t′ e =
         let y = block-open [] s (opened (m .cmdAt n) ch) stays s o stays in
-        subst (Becomes (m .cmdAt) t i (some (entered (opened (m .cmdAt n) ch)))) (sym (y .is) ∙ e) (y .stands)
+        subst (InPlace (m .cmdAt) t i (some (entered (opened (m .cmdAt n) ch)))) (sym (y .is) ∙ e) (y .stands)
 
     -- .. and only the block's own commands are movable
     open-moves : (cs : List ℕ) (s₁ : S) (v : Control)
@@ -195,7 +195,7 @@ module _ {S E : Type 0} (m : Machine S E) where
     pub block-left : (first later : List ℕ) (s₁ : S)
         → Reaches m s₁ none first s (some (opened (m .cmdAt n) ch))
         → (o₁ : Option Control)
-        → Becomes (m .cmdAt) t i none o₁
+        → InPlace (m .cmdAt) t i none o₁
         → (s′ : S) (o′ : Option Control)
         → Reaches m s′ o′ (first ++ later) s o
         → Reaches m s′ o′ later s₁ o₁

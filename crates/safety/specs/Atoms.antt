@@ -26,8 +26,8 @@ pub record Innermost (t : Control) : Type 0 where
 
 -- Control t, with p in place of the command that choice i names, is o, by the rules for control: that command's step is taken to leave
 -- p, and no store plays a part.
-abbrev pub Becomes : (ℕ → Cmd) → Control → ℕ → Option Control → Option Control → Type 0
-Becomes cmdAt t i p o = ComesTo {S = Unit {0}} cmdAt (λ n ch out. out ≡ goesTo tt p) t i (goesTo tt o)
+abbrev pub InPlace : (ℕ → Cmd) → Control → ℕ → Option Control → Option Control → Type 0
+InPlace cmdAt t i p o = ComesTo {S = Unit {0}} cmdAt (λ n ch out. out ≡ goesTo tt p) t i (goesTo tt o)
 
 module _ {S E : Type 0} (m : Machine S E) where
   -- Choice i of t entered a block with the inside u. Since then, with the store s, the choices cs were made; they led to the store s′
@@ -39,7 +39,7 @@ module _ {S E : Type 0} (m : Machine S E) where
       pub alone : Reaches m s′ (some inner) cs s (some u)  -- the run of the block alone, with the same choices
       pub control : Control
       pub is : o′ ≡ some control
-      pub stands : Becomes (m .cmdAt) t i (some (entered inner)) (some control)  -- all around it is as it was
+      pub stands : InPlace (m .cmdAt) t i (some (entered inner)) (some control)  -- all around it is as it was
       pub others-wait : movable control ≡ movable inner  -- nothing else is movable
 
     -- it has: a first part of the choices is the run of the block alone, to its end; the others go on without it
@@ -50,7 +50,7 @@ module _ {S E : Type 0} (m : Machine S E) where
       pub store : S
       pub alone : Reaches m store none first s (some u)
       pub control : Option Control
-      pub closed : Becomes (m .cmdAt) t i none control
+      pub closed : InPlace (m .cmdAt) t i none control
       pub on : Reaches m s′ o′ later store control
 
     pub data OnlyBlock : Type 0 where
