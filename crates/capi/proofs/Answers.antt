@@ -2,7 +2,7 @@
 -- place or node, and zero, which means nothing, where there is no number. Assumes nothing.
 use Prim.Native.Nat.{ℕ}
 use mathlib.Core.Path.{_≡_, refl}
-use mathlib.Core.List.{List, [], _∷_}
+use mathlib.Core.List.{[], _∷_}
 use native.Mathlib.Omega.{arith}
 use Rattle.rules.specs.declared.Verdict.{Verdict}
 use Rattle.rules.specs.declared.Verdict.the-variants.{Accepted, Refused}
@@ -10,7 +10,7 @@ use Rattle.rules.specs.declared.Stop.the-variants.{Faulted, Full, OutOfRange, N
 use Rattle.rules.specs.declared.End.the-variants.{Done, UsedUp, Stopped}
 use Rattle.rules.specs.declared.Answer.the-variants.{Refusal, Ending}
 use Rattle.rules.specs.Numbers.{stopNo, stopValues, endNo, endValues, verdictNumbers}
-use Rattle.capi.specs.Told.{Checked, Told, nowhere, numberIn, placeIn, verdictNo, checkedOf, toldOf}
+use Rattle.capi.specs.Told.{nowhere, numberIn, placeIn, verdictNo, checkedOf, toldOf}
 
 pub checked-answers
     : (checkedOf Accepted ∷ checkedOf (Refused 4 0) ∷ checkedOf (Refused 9 17) ∷ [])

@@ -10,6 +10,7 @@ ghost use mathlib.Core.Path.{_≡_};
 ghost use lib.ListN.{length};
 ghost use Rattle.rules.specs.declared.Answer.the-variants.{Ending};
 ghost use Rattle.rules.specs.declared.End.the-variants.{Stopped};
+ghost use mathlib.Core.List.{[]};
 ghost use Rattle.rules.specs.Refusals.{check as checkOf};
 ghost use Rattle.rules.specs.State.{size as sizeOf};
 ghost use Rattle.rules.specs.Run.{answerOf};
@@ -149,7 +150,7 @@ pub extern "C" fn flagcopper_size() -> usize
 // Accepted, or refused with the first reason in the fixed order and its place; `workspace_words` is what a run will be lent.
 #[no_mangle]
 pub extern "C" fn flagcopper_check(script: &[u8], workspace_words: usize) -> Checked
-    ensures { λ r. ⌜ r ≡ checkedOf (checkOf «workspace_words» (now (script .entry))) ⌝ }
+    ensures { λ r. ⌜ r ≡ checkedOf (checkOf [] «workspace_words» (now (script .entry))) ⌝ }
 {
     say(interpreter::check(script, workspace_words))
 }

@@ -4,6 +4,9 @@
 mod nodes;
 mod uses;
 
+use rules::MOST_FIELDS;
+use rules::MOST_NAMES;
+use rules::MOST_NODES;
 use rules::SIZE;
 use rules::Verdict;
 ghost use mathlib.Core.Path.{_≡_};
@@ -11,9 +14,11 @@ ghost use Prim.Native.Nat.{_<_, _≤_};
 ghost use lib.ListN.{length};
 ghost use Rattle.rules.specs.Image.{fieldsOf, nodesOf};
 ghost use Rattle.rules.specs.Refusals.{badContents, check};
+ghost use Rattle.rules.specs.Scope.{Names};
 ghost use Rattle.rules.proofs.GoodFacts.{Sized};
 ghost use Rattle.rules.specs.declared.Verdict.the-variants.{Accepted};
 ghost use Rattle.checklaws.specs.Rest.{usesSay, nodesSay, bodiesSay};
+ghost use Rattle.checklaws.specs.Bits.{Shows};
 ghost use Rattle.checklaws.specs.Pieces.{refusal, headReason, codeRules, nodeRules, placeSays, rulesSay};
 
 // ---- 10, 1, 2 and 3
@@ -27,7 +32,7 @@ fn contents_wrong(img: &[u8]) -> bool
         return true;
     }
     let f = image::fields(img);
-    if 16 < f {
+    if MOST_FIELDS < f {
         return true;
     }
     if image::word(img, 4) != 10 + 2 * f {
@@ -37,10 +42,10 @@ fn contents_wrong(img: &[u8]) -> bool
     if m == 0 {
         return true;
     }
-    if 2048 < m {
+    if MOST_NODES < m {
         return true;
     }
-    128 < image::names(img)
+    MOST_NAMES < image::names(img)
 }
 
 fn head(script: &[u8], words: usize) -> u32
@@ -99,49 +104,50 @@ fn codes(img: &[u8]) -> Verdict
     Verdict::Accepted
 }
 
-// ---- the whole check: each group is looked at when no earlier rule is broken
+// ---- the whole check: each group is looked at when no earlier rule is broken; low and high are the names visible at the root
 
-fn uses_on(img: &[u8]) -> Verdict
+fn uses_on(img: &[u8], low: u64, high: u64) -> Verdict
     requires { ⌜ Sized (now img) ⌝ }
     requires { ⌜ rulesSay (now img) nodeRules (nodesOf (now img)) ≡ Accepted ⌝ }
-    ensures { λ r. ⌜ r ≡ usesSay (now (img .entry)) ⌝ }
+    ensures { λ r. ⌜ ((visible : Names) → Shows low high visible → r ≡ usesSay visible (now (img .entry))) ⌝ }
 {
     let v = uses::all_uses(img);
     match v {
-        Verdict::Accepted => namecheck::all_names(img),
+        Verdict::Accepted => namecheck::all_names(img, low, high),
         Verdict::Refused(k, p) => Verdict::Refused(k, p),
     }
 }
 
-fn nodes_on(img: &[u8]) -> Verdict
+fn nodes_on(img: &[u8], low: u64, high: u64) -> Verdict
     requires { ⌜ Sized (now img) ⌝ }
-    ensures { λ r. ⌜ r ≡ nodesSay (now (img .entry)) ⌝ }
+    ensures { λ r. ⌜ ((visible : Names) → Shows low high visible → r ≡ nodesSay visible (now (img .entry))) ⌝ }
 {
     let v = nodes::all_nodes(img);
     match v {
-        Verdict::Accepted => uses_on(img),
+        Verdict::Accepted => uses_on(img, low, high),
         Verdict::Refused(k, p) => Verdict::Refused(k, p),
     }
 }
 
-fn bodies(img: &[u8]) -> Verdict
+fn bodies(img: &[u8], low: u64, high: u64) -> Verdict
     requires { ⌜ Sized (now img) ⌝ }
-    ensures { λ r. ⌜ r ≡ bodiesSay (now (img .entry)) ⌝ }
+    ensures { λ r. ⌜ ((visible : Names) → Shows low high visible → r ≡ bodiesSay visible (now (img .entry))) ⌝ }
 {
     let v = codes(img);
     match v {
-        Verdict::Accepted => nodes_on(img),
+        Verdict::Accepted => nodes_on(img, low, high),
         Verdict::Refused(k, p) => Verdict::Refused(k, p),
     }
 }
 
-// Accepted, or the first broken rule in the fixed order and its place; for every script and every length of workspace.
-pub fn check(script: &[u8], workspace_words: usize) -> Verdict
-    ensures { λ r. ⌜ r ≡ check «workspace_words» (now (script .entry)) ⌝ }
+// Accepted, or the first broken rule in the fixed order and its place; for every script, every length of workspace and any
+// names visible at the root: bit x of low is name x, bit x of high is name 64 + x.
+pub fn check(script: &[u8], workspace_words: usize, low: u64, high: u64) -> Verdict
+    ensures { λ r. ⌜ ((visible : Names) → Shows low high visible → r ≡ check visible «workspace_words» (now (script .entry))) ⌝ }
 {
     let k = head(script, workspace_words);
     if k != 0 {
         return Verdict::Refused(k, 0);
     }
-    bodies(script)
+    bodies(script, low, high)
 }

@@ -1,81 +1,64 @@
 // Rules 5, 6 and 7 (document 01, "Refused scripts"), together at each node, node 0 upward: a tag, unused words that are
 // zero, and words that fit their role.
 
-use image::Operand;
 use image::Shape;
 use image::Sort;
+use rules::Kind;
 use rules::Node;
+use rules::Role;
+use rules::Row;
 use rules::Verdict;
 ghost use mathlib.Core.Path.{_≡_};
 ghost use mathlib.Core.Bool.{_&&_};
 ghost use Prim.Native.Nat.{_<_};
-ghost use Rattle.rules.specs.Image.{nodesOf, anExp, aTest, aCmd};
+ghost use Rattle.rules.specs.Image.{nodesOf};
 ghost use Rattle.rules.specs.Refusals.{blank, isKind, suits};
 ghost use Rattle.rules.proofs.GoodFacts.{Sized};
-ghost use Rattle.image.specs.Tags.{kindIs, roleIs};
-ghost use Rattle.checklaws.specs.Pieces.{refusal, nodeRules, placeSays, rulesSay, wordsReason, childKind, indexRight, nameRight};
+ghost use Rattle.image.specs.Tags.{kindIs};
+ghost use Rattle.checklaws.specs.Pieces.{refusal, nodeRules, placeSays, rulesSay, wordsReason, childKind, kindIndex, indexRight, nameRight};
 
 // 6: a word that the tag's row doesn't list is zero.
-fn blank_word(p: Operand, w: usize) -> bool
-    ensures { λ r. ⌜ r ≡ blank (roleIs p) w ⌝ }
+fn blank_word(p: Role, w: usize) -> bool
+    ensures { λ r. ⌜ r ≡ blank p w ⌝ }
 {
     match p {
-        Operand::Unused => w == 0,
-        Operand::Index => true,
-        Operand::Half => true,
-        Operand::Uses => true,
-        Operand::Binds => true,
-        Operand::ChildExp => true,
-        Operand::ChildTest => true,
-        Operand::ChildCmd => true,
+        Role::Unused => w == 0,
+        _ => true,
     }
 }
 
-fn blank_words(x: Node, p: Operand, q: Operand, r: Operand) -> bool
-    ensures { λ y. ⌜ y ≡ (blank (roleIs p) (x .a) && blank (roleIs q) (x .b) && blank (roleIs r) (x .c)) ⌝ }
+fn blank_words(x: Node, r: Row) -> bool
+    ensures { λ y. ⌜ y ≡ (blank (r .a) (x .a) && blank (r .b) (x .b) && blank (r .c) (x .c)) ⌝ }
 {
-    let a = x.a;
-    let b = x.b;
-    let c = x.c;
-    if !blank_word(p, a) {
+    let p = r.a;
+    let q = r.b;
+    let s = r.c;
+    if !blank_word(p, x.a) {
         return false;
     }
-    if !blank_word(q, b) {
+    if !blank_word(q, x.b) {
         return false;
     }
-    blank_word(r, c)
+    blank_word(s, x.c)
 }
 
-fn is_exp(k: Sort) -> bool
-    ensures { λ r. ⌜ r ≡ isKind anExp (kindIs k) ⌝ }
+fn kind_index(k: Kind) -> u32
+    ensures { λ r. ⌜ r ≡ kindIndex k ⌝ }
 {
     match k {
-        Sort::Nothing => false,
-        Sort::Exp => true,
-        Sort::Test => false,
-        Sort::Cmd => false,
+        Kind::Exp => 1,
+        Kind::Test => 2,
+        Kind::Cmd => 3,
     }
 }
 
-fn is_test(k: Sort) -> bool
-    ensures { λ r. ⌜ r ≡ isKind aTest (kindIs k) ⌝ }
+// Is it a kind, and this one?
+pub fn is_kind(k: Kind, s: Sort) -> bool
+    ensures { λ r. ⌜ r ≡ isKind k (kindIs s) ⌝ }
 {
-    match k {
+    match s {
         Sort::Nothing => false,
-        Sort::Exp => false,
-        Sort::Test => true,
-        Sort::Cmd => false,
-    }
-}
-
-pub fn is_cmd(k: Sort) -> bool
-    ensures { λ r. ⌜ r ≡ isKind aCmd (kindIs k) ⌝ }
-{
-    match k {
-        Sort::Nothing => false,
-        Sort::Exp => false,
-        Sort::Test => false,
-        Sort::Cmd => true,
+        Sort::Of(j) => kind_index(k) == kind_index(j),
     }
 }
 
@@ -112,49 +95,47 @@ fn name_right(img: &[u8], w: usize) -> bool
 }
 
 // 7: a field index in 1..F, a name in 0..N−1, a child below its parent and of its kind.
-fn right_word(img: &[u8], n: usize, p: Operand, w: usize) -> bool
+fn right_word(img: &[u8], n: usize, p: Role, w: usize) -> bool
     requires { ⌜ Sized (now img) ⌝ }
     requires { ⌜ n < nodesOf (now img) ⌝ }
-    ensures { λ r. ⌜ r ≡ suits (now (img .entry)) n (roleIs p) w ⌝ }
+    ensures { λ r. ⌜ r ≡ suits (now (img .entry)) n p w ⌝ }
 {
     match p {
-        Operand::Unused => true,
-        Operand::Index => index_right(img, w),
-        Operand::Half => true,
-        Operand::Uses => name_right(img, w),
-        Operand::Binds => name_right(img, w),
-        Operand::ChildExp => is_exp(child(img, n, w)),
-        Operand::ChildTest => is_test(child(img, n, w)),
-        Operand::ChildCmd => is_cmd(child(img, n, w)),
+        Role::Unused => true,
+        Role::Index => index_right(img, w),
+        Role::Half => true,
+        Role::Uses => name_right(img, w),
+        Role::Binds => name_right(img, w),
+        Role::Child(k) => is_kind(k, child(img, n, w)),
     }
 }
 
-fn right_words(img: &[u8], n: usize, x: Node, p: Operand, q: Operand, r: Operand) -> bool
+fn right_words(img: &[u8], n: usize, x: Node, r: Row) -> bool
     requires { ⌜ Sized (now img) ⌝ }
     requires { ⌜ n < nodesOf (now img) ⌝ }
-    ensures { λ y. ⌜ y ≡ (suits (now (img .entry)) n (roleIs p) (x .a) && suits (now (img .entry)) n (roleIs q) (x .b) && suits (now (img .entry)) n (roleIs r) (x .c)) ⌝ }
+    ensures { λ y. ⌜ y ≡ (suits (now (img .entry)) n (r .a) (x .a) && suits (now (img .entry)) n (r .b) (x .b) && suits (now (img .entry)) n (r .c) (x .c)) ⌝ }
 {
-    let a = x.a;
-    let b = x.b;
-    let c = x.c;
-    if !right_word(img, n, p, a) {
+    let p = r.a;
+    let q = r.b;
+    let s = r.c;
+    if !right_word(img, n, p, x.a) {
         return false;
     }
-    if !right_word(img, n, q, b) {
+    if !right_word(img, n, q, x.b) {
         return false;
     }
-    right_word(img, n, r, c)
+    right_word(img, n, s, x.c)
 }
 
-fn words_reason(img: &[u8], n: usize, x: Node, p: Operand, q: Operand, r: Operand) -> u32
+fn words_reason(img: &[u8], n: usize, x: Node, r: Row) -> u32
     requires { ⌜ Sized (now img) ⌝ }
     requires { ⌜ n < nodesOf (now img) ⌝ }
-    ensures { λ y. ⌜ y ≡ wordsReason (now (img .entry)) n (roleIs p) (roleIs q) (roleIs r) x ⌝ }
+    ensures { λ y. ⌜ y ≡ wordsReason (now (img .entry)) n r x ⌝ }
 {
-    if !blank_words(x, p, q, r) {
+    if !blank_words(x, r) {
         return 6;
     }
-    if !right_words(img, n, x, p, q, r) {
+    if !right_words(img, n, x, r) {
         return 7;
     }
     0
@@ -170,7 +151,7 @@ fn node_reason(img: &[u8], n: usize) -> u32
     let shape = image::operands(tag);
     match shape {
         Shape::NoTag => 5,
-        Shape::Words(p, q, r) => words_reason(img, n, x, p, q, r),
+        Shape::Words(r) => words_reason(img, n, x, r),
     }
 }
 

@@ -1,16 +1,17 @@
 // Rule 8 (document 01, "Refused scripts"): every node but the root is a child exactly once, and the root is a command.
 // The uses of every node are counted in one pass, in a local array with a number for each node.
 
-use image::Operand;
 use image::Shape;
+use rules::Kind;
 use rules::Node;
+use rules::Role;
+use rules::Row;
 use rules::Verdict;
 ghost use mathlib.Core.Path.{_≡_};
 ghost use Prim.Native.Nat.{_+_, _<_};
 ghost use lib.ListN.{getD, set};
 ghost use Rattle.rules.specs.Image.{nodesOf};
 ghost use Rattle.rules.proofs.GoodFacts.{Sized};
-ghost use Rattle.image.specs.Tags.{roleIs};
 ghost use Rattle.checklaws.specs.Pieces.{refusal, useRules, placeSays, rulesSay};
 ghost use Rattle.checklaws.specs.Counts.{Most, Ticks, TicksAll, Counts};
 
@@ -25,34 +26,28 @@ fn add_one(t: &mut [u16], w: usize)
 }
 
 // Counts one word of a node: a child is used once more.
-fn tick(t: &mut [u16], p: Operand, w: usize)
+fn tick(t: &mut [u16], p: Role, w: usize)
     requires { ⌜ Most 65534 (now t) ⌝ }
-    ensures { λ _. ⌜ Ticks (roleIs p) w (now (t .entry)) (now (t .exit)) ⌝ }
+    ensures { λ _. ⌜ Ticks p w (now (t .entry)) (now (t .exit)) ⌝ }
 {
     match p {
-        Operand::Unused => {}
-        Operand::Index => {}
-        Operand::Half => {}
-        Operand::Uses => {}
-        Operand::Binds => {}
-        Operand::ChildExp => add_one(t, w),
-        Operand::ChildTest => add_one(t, w),
-        Operand::ChildCmd => add_one(t, w),
+        Role::Child(_) => add_one(t, w),
+        _ => {}
     }
 }
 
 // A node's three words may be the same child, so its count may grow by three; 60,000 leaves room for that, and is more
 // than 2,048 nodes with three children each.
-fn tick_words(t: &mut [u16], x: Node, p: Operand, q: Operand, r: Operand)
+fn tick_words(t: &mut [u16], x: Node, r: Row)
     requires { ⌜ Most 60000 (now t) ⌝ }
-    ensures { λ _. ⌜ TicksAll (roleIs p) (roleIs q) (roleIs r) x (now (t .entry)) (now (t .exit)) ⌝ }
+    ensures { λ _. ⌜ TicksAll r x (now (t .entry)) (now (t .exit)) ⌝ }
 {
-    let a = x.a;
-    let b = x.b;
-    let c = x.c;
-    tick(t, p, a);
-    tick(t, q, b);
-    tick(t, r, c);
+    let p = r.a;
+    let q = r.b;
+    let s = r.c;
+    tick(t, p, x.a);
+    tick(t, q, x.b);
+    tick(t, s, x.c);
 }
 
 fn count_node(img: &[u8], t: &mut [u16], n: usize)
@@ -66,7 +61,7 @@ fn count_node(img: &[u8], t: &mut [u16], n: usize)
     let shape = image::operands(tag);
     match shape {
         Shape::NoTag => {}
-        Shape::Words(p, q, r) => tick_words(t, x, p, q, r),
+        Shape::Words(r) => tick_words(t, x, r),
     }
 }
 
@@ -94,7 +89,7 @@ fn use_reason(img: &[u8], t: &[u16], n: usize) -> u32
         let x = image::read(img, n);
         let tag = x.tag;
         let k = image::kind(tag);
-        if crate::nodes::is_cmd(k) {
+        if crate::nodes::is_kind(Kind::Cmd, k) {
             return 0;
         }
         return 8;

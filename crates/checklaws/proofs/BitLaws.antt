@@ -1,16 +1,17 @@
 -- Bits of a word: a clear bit is set by adding its power of two, which changes no other bit (`add-bit`) and stays within
--- the word (`add-fits`); and two words as a set of names (`shows-none`, `seen-low`, `also-low` and their twins).
+-- the word (`add-fits`); and two words as a set of names (`shows-none`, `shows-some`, `seen-low`,
+-- `also-low` and their twins).
 -- Assumes nothing.
 use Prim.Native.Nat.{ℕ, zero, suc, _+_, _*_, _-_, _/_, _%_, _^_, _<_, _≤_}
-use mathlib.Core.Path.{_≡_, refl, sym, _∙_}
-use mathlib.Core.Bool.{Bool, true, false, _||_}
+use mathlib.Core.Path.{_≡_, refl, sym, ap, _∙_}
+use mathlib.Core.Bool.{Bool, true, false, cond, _||_}
 use mathlib.Core.List.{[], _∷_}
 use native.Mathlib.Omega.{arith}
 use native.Mathlib.Decide.{ℕ-discrete}
 use native.Mathlib.Nat.{div-div-eq-div-mul, mod-eq-of-lt, pow-succ', zero-div}
 use lib.Pow.{pow-lt}
-use lib.Dec.{eqb, eqb·zero-suc, eqb·suc-zero, eqb·suc-suc}
-use borrow.Author.Tests.{eq-eqb, ne-eqb, eqb-true, eqb-false}
+use lib.Dec.{eqb, ltb, eqb·zero-suc, eqb·suc-zero, eqb·suc-suc}
+use borrow.Author.Tests.{eq-eqb, ne-eqb, eqb-true, eqb-false, lt-ltb, le-ltb}
 use Rattle.rules.specs.Scope.{Names, has}
 use Rattle.checklaws.specs.Bits.{bit, Adds, Shows}
 
@@ -32,7 +33,7 @@ even w e =
     let l : w % 2 < 2 = omega arith in
     omega arith
 
-pub add-bit : (x w : ℕ) → bit w x ≡ false → (y : ℕ) → bit (w + 2 ^ x) y ≡ (eqb x y || bit w y)
+add-bit : (x w : ℕ) → bit w x ≡ false → (y : ℕ) → bit (w + 2 ^ x) y ≡ (eqb x y || bit w y)
 add-bit zero w e zero =
     let h = even w e in
     let d : (w + 1) % 2 ≡ 1 = omega arith in
@@ -51,7 +52,7 @@ add-bit (suc x) w e (suc y) =
     rw (p, eqb·suc-suc x y)
     (bit-suc (w + 2 * 2 ^ x) y ∙ rw d (add-bit x (w / 2) (sym (bit-suc w x) ∙ e) y ∙ rw (bit-suc w y)))
 
-pub add-fits : (x m w : ℕ) → x < m → w < 2 ^ m → bit w x ≡ false → w + 2 ^ x < 2 ^ m
+add-fits : (x m w : ℕ) → x < m → w < 2 ^ m → bit w x ≡ false → w + 2 ^ x < 2 ^ m
 add-fits x zero w l h e = absurd (omega arith)
 add-fits zero (suc m) w l h e =
     let p = pow-succ' 2 m in
@@ -65,20 +66,24 @@ add-fits (suc x) (suc m) w l h e =
     rw (p, q) (omega arith)
 
 -- the power as the code writes it
-pub shifted : (x : ℕ) → x < 64 → 1 * 2 ^ x % 18446744073709551616 ≡ 2 ^ x
+shifted : (x : ℕ) → x < 64 → 1 * 2 ^ x % 18446744073709551616 ≡ 2 ^ x
 shifted x l =
     let h : 2 ^ x < 2 ^ 64 = pow-lt l in
     let e : 1 * 2 ^ x ≡ 2 ^ x = omega arith in
     rw e (mod-eq-of-lt h)
 
-pub adds-new : (w x : ℕ) → bit w x ≡ false → Adds w x (w + 2 ^ x)
-adds-new w x e = record { adds = add-bit x w e }
+module _ (w x : ℕ) (b : Bool) (l : x < 64) (is : b ≡ bit w x) (f : b ≡ false) where
+  pub adds-new : Adds w x (w + 1 * 2 ^ x % 18446744073709551616)
+  adds-new = rw (shifted x l) (record { adds = add-bit x w (sym is ∙ f) })
 
-pub adds-old : (w x : ℕ) → bit w x ≡ true → Adds w x w
-adds-old w x e = record { adds = go }
+  pub adds-room : w < 18446744073709551616 → w + 1 * 2 ^ x % 18446744073709551616 < 18446744073709551616
+  adds-room h = rw (shifted x l) (add-fits x 64 w l h (sym is ∙ f))
+
+pub adds-old : (w x : ℕ) (b : Bool) → b ≡ bit w x → b ≡ true → Adds w x w
+adds-old w x b is t = let e = sym is ∙ t in record { adds = go e }
   where
-    go : (y : ℕ) → bit w y ≡ (eqb x y || bit w y)
-    go y = pick (eqb x y) refl
+    go : bit w x ≡ true → (y : ℕ) → bit w y ≡ (eqb x y || bit w y)
+    go e y = pick (eqb x y) refl
       where
         pick : (b : Bool) → eqb x y ≡ b → bit w y ≡ (b || bit w y)
         pick true d = let f = eqb-true x y d in rw (← f) e
@@ -90,12 +95,53 @@ pub shows-none : Shows 0 0 []
 unfolding has
 shows-none = record { low = λ x l. bit-none x; high = λ x l. bit-none x }
 
-module _ {lo hi : ℕ} {visible : Names} (h : Shows lo hi visible) where
-  pub seen-low : (x : ℕ) → x < 64 → bit lo x ≡ has x visible
-  seen-low x l = h .low x l
+-- any two words are some names
+those : (ℕ → Bool) → ℕ → Names
+those f zero = []
+those f (suc n) = cond (f n) (n ∷ those f n) (those f n)
 
-  pub seen-high : (x : ℕ) → 64 ≤ x → x < 128 → bit hi (x - 64) ≡ has x visible
-  seen-high x l m = let e : 64 + (x - 64) ≡ x = omega arith in h .high (x - 64) (omega arith) ∙ rw e
+has-above : (f : ℕ → Bool) (n x : ℕ) → n ≤ x → has x (those f n) ≡ false
+unfolding those has
+has-above f zero x l = refl
+has-above f (suc n) x l = go (f n) (has-above f n x (omega arith))
+  where
+    go : (b : Bool) → has x (those f n) ≡ false → has x (cond b (n ∷ those f n) (those f n)) ≡ false
+    go true e = rw (ne-eqb n x (λ d. omega arith)) e
+    go false e = e
+
+has-those : (f : ℕ → Bool) (n x : ℕ) → x < n → has x (those f n) ≡ f x
+unfolding those has
+has-those f zero x l = absurd (omega arith)
+has-those f (suc n) x l = go (f n) refl (ℕ-discrete n x) (λ m. has-those f n x m)
+  where
+    go : (b : Bool) → f n ≡ b → Dec (n ≡ x) → (x < n → has x (those f n) ≡ f x) → has x (cond b (n ∷ those f n) (those f n)) ≡ f x
+    go true e (yes d) rest = rw (eq-eqb n x d) (sym e ∙ ap f d)
+    go true e (no d) rest = rw (ne-eqb n x d) (rest (omega arith))
+    go false e (yes d) rest = has-above f n x (omega arith) ∙ sym e ∙ ap f d
+    go false e (no d) rest = rest (omega arith)
+
+-- the names that two words are
+pub namesIn : ℕ → ℕ → Names
+namesIn lo hi = those (λ x. cond (ltb x 64) (bit lo x) (bit hi (x - 64))) 128
+
+pub shows-some : (lo hi : ℕ) → Shows lo hi (namesIn lo hi)
+unfolding namesIn
+shows-some lo hi =
+    record {
+      low = λ x l. sym (has-those _ 128 x (omega arith) ∙ rw (lt-ltb x 64 l));
+      high = λ x l.
+          let e : 64 + x - 64 ≡ x = omega arith in
+          sym (has-those _ 128 (64 + x) (omega arith) ∙ rw (le-ltb (64 + x) 64 (omega arith), e));
+    }
+
+module _ {lo hi : ℕ} {visible : Names} (h : Shows lo hi visible) where
+  pub seen-low : (x : ℕ) (b : Bool) → x < 64 → b ≡ bit lo x → b ≡ has x visible
+  seen-low x b l is = is ∙ h .low x l
+
+  pub seen-high : (x : ℕ) (b : Bool) → 64 ≤ x → x < 128 → b ≡ bit hi (x - 64) → b ≡ has x visible
+  seen-high x b l m is =
+      let e : 64 + (x - 64) ≡ x = omega arith in
+      is ∙ h .high (x - 64) (omega arith) ∙ rw e
 
   pub also-low : (x lo′ : ℕ) → x < 64 → Adds lo x lo′ → Shows lo′ hi (x ∷ visible)
   unfolding has
@@ -119,3 +165,5 @@ module _ {lo hi : ℕ} {visible : Names} (h : Shows lo hi visible) where
             | yes e ↦ eq-eqb (x - 64) y (omega arith) ∙ sym (eq-eqb x (64 + y) e)
             | no f ↦ ne-eqb (x - 64) y (λ e. f (omega arith)) ∙ sym (ne-eqb x (64 + y) f)
           ]
+
+pub ruleset bits = (adds-new, adds-room, adds-old, seen-low, seen-high, also-low, also-high)

@@ -12,9 +12,12 @@ use native.Mathlib.Decide.{decLt}
 use lib.Dec.{eqb}
 use borrow.Author.Tests.{eqb-true}
 use Rattle.rules.specs.declared.Node.{Node}
-use Rattle.rules.specs.Image.{Role, unused, index, half, uses, binds, child, Row, row, rowOf, nodeAt}
+use Rattle.rules.specs.declared.Role.{Role}
+use Rattle.rules.specs.declared.Role.the-variants.{Unused, Index, Half, Uses, Binds, Child}
+use Rattle.rules.specs.declared.Row.{Row}
+use Rattle.rules.specs.Image.{rowOf, nodeAt}
 use Rattle.rules.specs.Refusals.{hit, hits, usesOf}
-use Rattle.rules.proofs.GoodFacts.{Fit, RowFits}
+use Rattle.rules.proofs.GoodFacts.{Fit, GoodRow}
 
 -- how often k is a child of node n
 unfoldable pub hitsAt : List ℕ → ℕ → ℕ → ℕ
@@ -74,12 +77,12 @@ module _ (img : List ℕ) (k : ℕ) where
 -- a word that is hit is a child's number
 pub hit-is : (p : Role) (w k : ℕ) → 0 < hit p w k → w ≡ k
 unfolding hit
-hit-is unused w k h = absurd (omega arith)
-hit-is index w k h = absurd (omega arith)
-hit-is half w k h = absurd (omega arith)
-hit-is uses w k h = absurd (omega arith)
-hit-is binds w k h = absurd (omega arith)
-hit-is (child j) w k h = go (eqb w k) refl h
+hit-is Unused w k h = absurd (omega arith)
+hit-is Index w k h = absurd (omega arith)
+hit-is Half w k h = absurd (omega arith)
+hit-is Uses w k h = absurd (omega arith)
+hit-is Binds w k h = absurd (omega arith)
+hit-is (Child j) w k h = go (eqb w k) refl h
   where
     go : (b : Bool) → eqb w k ≡ b → 0 < cond b 1 0 → w ≡ k
     go true e i = eqb-true w k e
@@ -94,22 +97,22 @@ one-of zero zero c h f g k = k (omega arith)
 module _ (img : List ℕ) (n : ℕ) where
   word-below : (p : Role) (w k : ℕ) → Fit img n p w → 0 < hit p w k → w < n
   unfolding hit
-  word-below unused w k f h = absurd (omega arith)
-  word-below index w k f h = absurd (omega arith)
-  word-below half w k f h = absurd (omega arith)
-  word-below uses w k f h = absurd (omega arith)
-  word-below binds w k f h = absurd (omega arith)
-  word-below (child j) w k f h = f .0
+  word-below Unused w k f h = absurd (omega arith)
+  word-below Index w k f h = absurd (omega arith)
+  word-below Half w k f h = absurd (omega arith)
+  word-below Uses w k f h = absurd (omega arith)
+  word-below Binds w k f h = absurd (omega arith)
+  word-below (Child j) w k f h = f .0
 
-  row-below : (o : Option Row) (x : Node) (k : ℕ) → RowFits img n o x → 0 < hits o x k → k < n
+  row-below : (o : Option Row) (x : Node) (k : ℕ) → GoodRow img n o x → 0 < hits o x k → k < n
   unfolding hits
   row-below none x k f h = absurd f
-  row-below (some (row m p q r t)) x k f h =
-      one-of (hit p (x .a) k) (hit q (x .b) k) (hit r (x .c) k) h
-      (λ i. rw (← hit-is p (x .a) k i) (word-below p (x .a) k (f .0) i))
-      (λ i. rw (← hit-is q (x .b) k i) (word-below q (x .b) k (f .1) i))
-      (λ i. rw (← hit-is r (x .c) k i) (word-below r (x .c) k (f .2) i))
+  row-below (some r) x k f h =
+      one-of (hit (r .a) (x .a) k) (hit (r .b) (x .b) k) (hit (r .c) (x .c) k) h
+      (λ i. rw (← hit-is (r .a) (x .a) k i) (word-below (r .a) (x .a) k (f .0) i))
+      (λ i. rw (← hit-is (r .b) (x .b) k i) (word-below (r .b) (x .b) k (f .1) i))
+      (λ i. rw (← hit-is (r .c) (x .c) k i) (word-below (r .c) (x .c) k (f .2) i))
 
-  pub child-below : (k : ℕ) → RowFits img n (rowOf (nodeAt img n .tag)) (nodeAt img n) → 0 < hitsAt img k n → k < n
+  pub child-below : (k : ℕ) → GoodRow img n (rowOf (nodeAt img n .tag)) (nodeAt img n) → 0 < hitsAt img k n → k < n
   unfolding hitsAt
   child-below k f h = row-below (rowOf (nodeAt img n .tag)) (nodeAt img n) k f h

@@ -42,9 +42,11 @@ module _ (img : List ℕ) (rs : List Reason) where
       (λ (l : i < suc n). rw (stays i n k p e (omega arith)))
       (eq-or-lt-of-le {n = i} {m = suc n} h)
 
-  pub found : (i k n : ℕ) → rulesSay img rs i ≡ Accepted → refusal k i ≡ placeSays img rs i → (k ≡ 0 → ⊥) → i < n → Refused k i ≡ rulesSay img rs n
-  found i k n e h z l =
+  pub found : (i k n m : ℕ) → m ≡ n → rulesSay img rs i ≡ Accepted → refusal k i ≡ placeSays img rs i → (k ≡ 0 → ⊥) → i < m → Refused k i ≡ rulesSay img rs n
+  found i k n m d e h z l =
       sym (stays (suc i) n k i (turn i e ∙ sym h ∙ refusal-some k i z) (omega arith))
 
-  pub ended : (i n : ℕ) → rulesSay img rs i ≡ Accepted → i ≤ n → n ≤ i → Accepted ≡ rulesSay img rs n
-  ended i n e l m = let d : i ≡ n = omega arith in sym (rw d at e)
+  pub ended : (i n m : ℕ) → m ≡ n → rulesSay img rs i ≡ Accepted → i ≤ m → m ≤ i → Accepted ≡ rulesSay img rs n
+  ended i n m f e l h = let d : i ≡ n = omega arith in sym (rw d at e)
+
+pub ruleset placing = (none-yet, goes-on, found, ended)

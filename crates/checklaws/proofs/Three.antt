@@ -6,7 +6,7 @@ use mathlib.Core.Bool.{Bool, true, false, not, _&&_}
 use borrow.Author.Tests.{not-true, not-false}
 use mathlib.Core.List.{List}
 use Rattle.rules.specs.declared.Node.{Node}
-use Rattle.rules.specs.Image.{Role}
+use Rattle.rules.specs.declared.Row.{Row}
 use Rattle.rules.specs.Refusals.{blank, suits}
 use Rattle.checklaws.specs.Pieces.{wordsReason}
 
@@ -21,16 +21,20 @@ module _ (a b c x : Bool) (p : x ≡ a) where
     pub third-says : not y ≡ false → (z : Bool) → z ≡ c → z ≡ (a && b && c)
     third-says h z r = rw (← p, ← q, ← r, not-false x e, not-false y h)
 
-module _ (img : List ℕ) (n : ℕ) (p q r : Role) (w : Node) (x : Bool) (e : x ≡ (blank p (w .a) && blank q (w .b) && blank r (w .c))) where
-  pub not-blank : not x ≡ true → 6 ≡ wordsReason img n p q r w
+module _ (img : List ℕ) (n : ℕ) (r : Row) (w : Node) (x : Bool) (e : x ≡ (blank (r .a) (w .a) && blank (r .b) (w .b) && blank (r .c) (w .c))) where
+  pub not-blank : not x ≡ true → 6 ≡ wordsReason img n r w
   unfolding wordsReason
   not-blank h = rw (← e, not-true x h)
 
-  module _ (f : not x ≡ false) (y : Bool) (g : y ≡ (suits img n p (w .a) && suits img n q (w .b) && suits img n r (w .c))) where
-    pub not-right : not y ≡ true → 7 ≡ wordsReason img n p q r w
+  module _ (f : not x ≡ false) (y : Bool) (g : y ≡ (suits img n (r .a) (w .a) && suits img n (r .b) (w .b) && suits img n (r .c) (w .c))) where
+    pub not-right : not y ≡ true → 7 ≡ wordsReason img n r w
     unfolding wordsReason
     not-right h = rw (← e, not-false x f, ← g, not-true y h)
 
-    pub blank-and-right : not y ≡ false → 0 ≡ wordsReason img n p q r w
+    pub blank-and-right : not y ≡ false → 0 ≡ wordsReason img n r w
     unfolding wordsReason
     blank-and-right h = rw (← e, not-false x f, ← g, not-false y h)
+
+pub ruleset threes = (first-fails, second-fails, third-says)
+
+pub ruleset wording = (not-blank, not-right, blank-and-right)

@@ -12,44 +12,45 @@ use Rattle.rules.specs.Image.{fieldsOf, nodesOf}
 use Rattle.rules.proofs.ReasonTable.{broken}
 use Rattle.rules.proofs.Reasons.{check-in-order}
 use Rattle.rules.specs.State.{size}
+use Rattle.rules.specs.Scope.{Names}
 use Rattle.rules.specs.Refusals.{badContents, rightLength, orElse, atPlace, lowest, check, ruleOf, rule}
 use Rattle.checklaws.proofs.Places.{refusal-none, refusal-some}
 use Rattle.checklaws.specs.Rest.{usesSay, nodesSay, bodiesSay}
-use Rattle.checklaws.specs.Pieces.{refusal, headReason, codeRules, nodeRules, useRules, nameRules, rulesSay}
+use Rattle.checklaws.specs.Pieces.{refusal, headReason, codeRules, nodeRules, useRules, nameRules, rulesSay, namesSay}
 
-module _ (w : ℕ) (img : List ℕ) where
-  codes-same : (n : ℕ) → lowest (broken w img) codeRules n ≡ rulesSay img codeRules n
+module _ (visible : Names) (w : ℕ) (img : List ℕ) where
+  codes-same : (n : ℕ) → lowest (broken visible w img) codeRules n ≡ rulesSay img codeRules n
   unfolding rulesSay lowest atPlace ruleOf rule
   codes-same zero = refl
-  codes-same (suc n) = ap (λ v. orElse v (atPlace (broken w img) codeRules n)) (codes-same n)
+  codes-same (suc n) = ap (λ v. orElse v (atPlace (broken visible w img) codeRules n)) (codes-same n)
 
-  nodes-same : (n : ℕ) → lowest (broken w img) nodeRules n ≡ rulesSay img nodeRules n
+  nodes-same : (n : ℕ) → lowest (broken visible w img) nodeRules n ≡ rulesSay img nodeRules n
   unfolding rulesSay lowest atPlace ruleOf rule
   nodes-same zero = refl
-  nodes-same (suc n) = ap (λ v. orElse v (atPlace (broken w img) nodeRules n)) (nodes-same n)
+  nodes-same (suc n) = ap (λ v. orElse v (atPlace (broken visible w img) nodeRules n)) (nodes-same n)
 
-  uses-same : (n : ℕ) → lowest (broken w img) useRules n ≡ rulesSay img useRules n
+  uses-same : (n : ℕ) → lowest (broken visible w img) useRules n ≡ rulesSay img useRules n
   unfolding rulesSay lowest atPlace ruleOf rule
   uses-same zero = refl
-  uses-same (suc n) = ap (λ v. orElse v (atPlace (broken w img) useRules n)) (uses-same n)
+  uses-same (suc n) = ap (λ v. orElse v (atPlace (broken visible w img) useRules n)) (uses-same n)
 
-  names-same : (n : ℕ) → lowest (broken w img) nameRules n ≡ rulesSay img nameRules n
-  unfolding rulesSay lowest atPlace ruleOf rule
+  names-same : (n : ℕ) → lowest (broken visible w img) nameRules n ≡ namesSay visible img n
+  unfolding namesSay lowest atPlace ruleOf rule
   names-same zero = refl
-  names-same (suc n) = ap (λ v. orElse v (atPlace (broken w img) nameRules n)) (names-same n)
+  names-same (suc n) = ap (λ v. orElse v (atPlace (broken visible w img) nameRules n)) (names-same n)
 
 or-accepted : (v : Verdict) → orElse v Accepted ≡ v
 unfolding orElse
 or-accepted Accepted = refl
 or-accepted (Refused k p) = refl
 
-pub check-is : (w : ℕ) (img : List ℕ) → check w img ≡ orElse (refusal (headReason w img) 0) (bodiesSay img)
+pub check-is : (visible : Names) (w : ℕ) (img : List ℕ) → check visible w img ≡ orElse (refusal (headReason w img) 0) (bodiesSay visible img)
 unfolding lowest atPlace orElse headReason refusal usesSay nodesSay bodiesSay ruleOf rule
-check-is w img =
-    check-in-order w img
-    ∙ rw (codes-same w img (fieldsOf img), nodes-same w img (nodesOf img), uses-same w img (nodesOf img), names-same w img (nodesOf img))
-    (rw (or-accepted (rulesSay img nameRules (nodesOf img)))
-    (go (ltb w size) (ltb (length img) 10) (badContents img) (not (eqb (length img) (rightLength img))) (bodiesSay img)))
+check-is visible w img =
+    check-in-order visible w img
+    ∙ rw (codes-same visible w img (fieldsOf img), nodes-same visible w img (nodesOf img), uses-same visible w img (nodesOf img), names-same visible w img (nodesOf img))
+    (rw (or-accepted (namesSay visible img (nodesOf img)))
+    (go (ltb w size) (ltb (length img) 10) (badContents img) (not (eqb (length img) (rightLength img))) (bodiesSay visible img)))
   where
     go : (a b c d : Bool) (v : Verdict)
         → orElse (cond a (Refused 10 0) Accepted) (orElse (cond b (Refused 1 0) Accepted) (orElse (cond c (Refused 2 0) Accepted) (orElse (cond d (Refused 3 0) Accepted) v)))
@@ -62,16 +63,19 @@ check-is w img =
 
 -- ---- the code's answers
 
-pub check-head : (w : ℕ) (img : List ℕ) (k : ℕ) → k ≡ headReason w img → (k ≡ 0 → ⊥) → Refused k 0 ≡ check w img
+pub check-head : (visible : Names) (w : ℕ) (img : List ℕ) (k : ℕ) → k ≡ headReason w img → (k ≡ 0 → ⊥) → Refused k 0 ≡ check visible w img
 unfolding orElse
-check-head w img k e h =
-    sym (check-is w img ∙ rw (← e, refusal-some k 0 h))
+check-head visible w img k e h =
+    sym (check-is visible w img ∙ rw (← e, refusal-some k 0 h))
 
-pub check-rest : (w : ℕ) (img : List ℕ) (k : ℕ) (v : Verdict) → k ≡ headReason w img → k ≡ 0 → v ≡ bodiesSay img → v ≡ check w img
+pub check-rest : (visible : Names) (w : ℕ) (img : List ℕ) (k : ℕ) (v : Verdict) → k ≡ headReason w img → k ≡ 0 → v ≡ bodiesSay visible img → v ≡ check visible w img
 unfolding orElse
-check-rest w img k v e z f = f ∙ sym (check-is w img ∙ rw (← e, z, refusal-none 0))
+check-rest visible w img k v e z f = f ∙ sym (check-is visible w img ∙ rw (← e, z, refusal-none 0))
 
 -- the first verdict that refuses
+pub passes : (u v : Verdict) → u ≡ v → u ≡ Accepted → v ≡ Accepted
+passes u v e a = sym e ∙ a
+
 pub goes-on : (u v w r : Verdict) → u ≡ v → u ≡ Accepted → r ≡ w → r ≡ orElse v w
 unfolding orElse
 goes-on u v w r e a h = rw (← e, a) h
@@ -79,3 +83,5 @@ goes-on u v w r e a h = rw (← e, a) h
 pub stops : (u v w : Verdict) (k p : ℕ) → u ≡ v → u ≡ Refused k p → Refused k p ≡ orElse v w
 unfolding orElse
 stops u v w k p e a = rw (← e, a)
+
+pub ruleset wholes = (check-head, check-rest, passes, goes-on, stops)

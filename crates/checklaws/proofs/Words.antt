@@ -1,21 +1,26 @@
 -- A place of the pieces, for the rules that look at one code or one node: what the code's tests amount to. Codes by
 -- their position, nodes by the roles of their words. Assumes nothing.
 use Prim.Native.Nat.{ℕ, zero, suc, _+_, _-_, _<_, _≤_}
-use mathlib.Core.Path.{_≡_, refl, sym, subst, _∙_}
+use mathlib.Core.Path.{_≡_, refl, sym, ap, subst, _∙_}
 use mathlib.Core.Bool.{Bool, true, false, cond, not, _&&_}
 use mathlib.Core.Option.{Option, none, some}
 use mathlib.Core.List.{List}
 use native.Mathlib.Omega.{arith}
-use lib.Dec.{ltb, leb}
+use lib.ListN.{getD}
+use lib.Dec.{eqb, ltb, leb}
 use borrow.Author.Tests.{le-leb, lt-leb, eq-eqb, ne-eqb}
 use Rattle.rules.specs.declared.Node.{Node}
 use Rattle.rules.specs.declared.Verdict.{Verdict}
 use Rattle.rules.specs.declared.Verdict.the-variants.{Accepted, Refused}
-use Rattle.rules.specs.Image.{Kind, Role, child, Row, row, rowOf, kindOf, nodesOf, codeAt, nodeAt, aCmd}
-use Rattle.rules.specs.Refusals.{badCode, noRow, blank, stains, isKind, suits, misfits, usesOf, badUse, atPlace, ruleOf, rule}
-use Rattle.rules.proofs.ReasonTable.{broken, reasonNo}
-use Rattle.image.specs.Tags.{roles, rolesOf}
-use Rattle.checklaws.specs.Pieces.{refusal, codeRules, nodeRules, useRules, placeSays, wordsReason, childKind}
+use Rattle.rules.specs.declared.Kind.{Kind}
+use Rattle.rules.specs.declared.Kind.the-variants.{Exp as anExp, Test as aTest, Cmd as aCmd}
+use Rattle.rules.specs.declared.Role.{Role}
+use Rattle.rules.specs.declared.Role.the-variants.{Child}
+use Rattle.rules.specs.declared.Row.{Row}
+use Rattle.rules.specs.Image.{rowOf, kindOf, nodesOf, codeAt, nodeAt}
+use Rattle.rules.specs.Refusals.{badCode, noRow, blank, stains, sameKind, isKind, suits, misfits, badUse, atPlace, ruleOf, rule}
+use Rattle.checklaws.specs.Counts.{Counts}
+use Rattle.checklaws.specs.Pieces.{refusal, codeRules, nodeRules, useRules, placeSays, wordsReason, childKind, kindIndex}
 
 -- ---- codes
 
@@ -59,6 +64,8 @@ module _ (img : List ℕ) where
     pub code-above : j < k → refusal 0 i ≡ placeSays img codeRules i
     code-above l = code-good i (later i false (λ d. h (e ∙ d)) z (rw (← e, ← f) (lt-leb k j l)))
 
+pub ruleset coding = (code-zero, code-first, code-low, code-above)
+
 -- ---- nodes
 
 module _ (img : List ℕ) (n : ℕ) where
@@ -68,20 +75,10 @@ module _ (img : List ℕ) (n : ℕ) where
       (Refused 5 n)
       (cond (stains o x) (Refused 6 n) (cond (misfits img n o x) (Refused 7 n) Accepted))
 
-  no-row : (o : Option Row) (x : Node) → rolesOf o ≡ none → refusal 5 n ≡ nodeSays o x
-  unfolding nodeSays refusal noRow rolesOf
-  no-row none x e = refl
-  no-row (some (row m p q r t)) x e = let z : _≡_ {A = ℕ} 0 1 = cc in absurd (omega arith)
-
-  row-there : (o : Option Row) (x : Node) (p q r : Role) → rolesOf o ≡ some (roles p q r) → refusal (wordsReason img n p q r x) n ≡ nodeSays o x
-  unfolding nodeSays refusal noRow rolesOf stains misfits wordsReason
-  row-there none x p q r e = let z : _≡_ {A = ℕ} 0 1 = cc in absurd (omega arith)
-  row-there (some (row m p′ q′ r′ t)) x p q r e =
-      let a : p ≡ p′ = cc in
-      let b : q ≡ q′ = cc in
-      let c : r ≡ r′ = cc in
-      rw (a, b, c)
-      (go (blank p′ (x .a) && blank q′ (x .b) && blank r′ (x .c)) (suits img n p′ (x .a) && suits img n q′ (x .b) && suits img n r′ (x .c)))
+  row-there : (r : Row) (x : Node) → refusal (wordsReason img n r x) n ≡ nodeSays (some r) x
+  unfolding nodeSays refusal noRow stains misfits wordsReason
+  row-there r x =
+      go (blank (r .a) (x .a) && blank (r .b) (x .b) && blank (r .c) (x .c)) (suits img n (r .a) (x .a) && suits img n (r .b) (x .b) && suits img n (r .c) (x .c))
     where
       go : (d f : Bool) → refusal (cond d (cond f 0 7) 6) n ≡ cond (not d) (Refused 6 n) (cond (not f) (Refused 7 n) Accepted)
       go true true = refl
@@ -89,18 +86,35 @@ module _ (img : List ℕ) (n : ℕ) where
       go false f = refl
 
   module _ (x : Node) (is : x ≡ nodeAt img n) where
-    pub node-none : rolesOf (rowOf (x .tag)) ≡ none → refusal 5 n ≡ placeSays img nodeRules n
-    unfolding placeSays atPlace nodeSays ruleOf rule
-    node-none e = rw (← is) (no-row (rowOf (x .tag)) x e)
+    pub node-none : rowOf (x .tag) ≡ none → refusal 5 n ≡ placeSays img nodeRules n
+    unfolding placeSays atPlace refusal noRow ruleOf rule
+    node-none e = rw (← is, e)
 
-    pub node-some : (p q r : Role) (k : ℕ) → rolesOf (rowOf (x .tag)) ≡ some (roles p q r) → k ≡ wordsReason img n p q r x → refusal k n ≡ placeSays img nodeRules n
+    pub node-some : (r : Row) (k : ℕ) → rowOf (x .tag) ≡ some r → k ≡ wordsReason img n r x → refusal k n ≡ placeSays img nodeRules n
     unfolding placeSays atPlace nodeSays ruleOf rule
-    node-some p q r k e h = rw (h, ← is) (row-there (rowOf (x .tag)) x p q r e)
+    node-some r k e h = rw (h, ← is, e) (row-there r x)
+
+-- two kinds are the same when their numbers are
+same-number : (k j : Kind) → eqb (kindIndex k) (kindIndex j) ≡ sameKind k j
+unfolding sameKind
+same-number anExp anExp = refl
+same-number anExp aTest = refl
+same-number anExp aCmd = refl
+same-number aTest anExp = refl
+same-number aTest aTest = refl
+same-number aTest aCmd = refl
+same-number aCmd anExp = refl
+same-number aCmd aTest = refl
+same-number aCmd aCmd = refl
+
+pub same-kind : (k j : Kind) (x y : ℕ) → x ≡ kindIndex k → y ≡ kindIndex j → eqb x y ≡ isKind k (some j)
+unfolding isKind
+same-kind k j x y e f = rw (e, f) (same-number k j)
 
 -- a child is right when its kind is
-pub child-right : (img : List ℕ) (n w : ℕ) (k : Kind) → isKind k (childKind img n w) ≡ suits img n (child k) w
+pub child-right : (img : List ℕ) (n w : ℕ) (p : Role) (k : Kind) (o : Option Kind) (b : Bool) → p ≡ Child k → o ≡ childKind img n w → b ≡ isKind k o → b ≡ suits img n p w
 unfolding childKind suits isKind
-child-right img n w k = go (ltb w n)
+child-right img n w p k o b e f h = h ∙ rw (e, f) (go (ltb w n))
   where
     go : (b : Bool) → isKind k (cond b (kindOf (nodeAt img w .tag)) none) ≡ (b && isKind k (kindOf (nodeAt img w .tag)))
     go true = refl
@@ -117,20 +131,26 @@ module _ (img : List ℕ) (n : ℕ) where
   unfolding refusal placeSays atPlace ruleOf rule
   use-good e = rw e
 
-  module _ (m : ℕ) (is : m ≡ nodesOf img) (e : n + 1 ≡ m) (b : Bool) (k : b ≡ isKind aCmd (kindOf (nodeAt img n .tag))) where
-    pub root-good : b ≡ true → refusal 0 n ≡ placeSays img useRules n
+  module _ (m : ℕ) (is : m ≡ nodesOf img) (e : n + 1 ≡ m) (x : Node) (at : x ≡ nodeAt img n) (o : Option Kind) (f : o ≡ kindOf (x .tag)) (b : Bool) (k : b ≡ isKind aCmd o) where
+    root-is : badUse img n ≡ not b
     unfolding badUse
-    root-good h = use-good (rw (eq-eqb (n + 1) (nodesOf img) (e ∙ is), ← k, h))
+    root-is = rw (eq-eqb (n + 1) (nodesOf img) (e ∙ is), ← at, ← f, ← k)
+
+    pub root-good : b ≡ true → refusal 0 n ≡ placeSays img useRules n
+    root-good h = use-good (root-is ∙ ap not h)
 
     pub root-bad : b ≡ false → refusal 8 n ≡ placeSays img useRules n
-    unfolding badUse
-    root-bad h = use-bad (rw (eq-eqb (n + 1) (nodesOf img) (e ∙ is), ← k, h))
+    root-bad h = use-bad (root-is ∙ ap not h)
 
-  module _ (m : ℕ) (is : m ≡ nodesOf img) (e : n + 1 ≡ m → ⊥) (u : ℕ) (k : u ≡ usesOf img n (nodesOf img)) where
-    pub once-good : u ≡ 1 → refusal 0 n ≡ placeSays img useRules n
+  module _ (m : ℕ) (is : m ≡ nodesOf img) (e : n + 1 ≡ m → ⊥) (l : n < nodesOf img) (t : List ℕ) (k : Counts img (nodesOf img) t) where
+    once-is : badUse img n ≡ not (eqb (getD t n 0) 1)
     unfolding badUse
-    once-good h = use-good (rw (ne-eqb (n + 1) (nodesOf img) (λ d. e (d ∙ sym is)), ← k, h))
+    once-is = rw (ne-eqb (n + 1) (nodesOf img) (λ d. e (d ∙ sym is)), k .counts n (omega (arith, k .long)))
 
-    pub once-bad : (u ≡ 1 → ⊥) → refusal 8 n ≡ placeSays img useRules n
-    unfolding badUse
-    once-bad h = use-bad (rw (ne-eqb (n + 1) (nodesOf img) (λ d. e (d ∙ sym is)), ← k, ne-eqb u 1 h))
+    pub once-good : getD t n 0 ≡ 1 → refusal 0 n ≡ placeSays img useRules n
+    once-good h = use-good (once-is ∙ ap not (eq-eqb (getD t n 0) 1 h))
+
+    pub once-bad : (getD t n 0 ≡ 1 → ⊥) → refusal 8 n ≡ placeSays img useRules n
+    once-bad h = use-bad (once-is ∙ ap not (ne-eqb (getD t n 0) 1 h))
+
+pub ruleset once = (root-good, root-bad, once-good, once-bad)

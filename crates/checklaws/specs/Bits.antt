@@ -7,7 +7,10 @@ use mathlib.Core.List.{List}
 use lib.ListN.{length, getD, set}
 use lib.Dec.{eqb}
 use Rattle.rules.specs.declared.Node.{Node}
-use Rattle.rules.specs.Image.{Role, unused, index, half, uses, binds, child, nodesOf}
+use Rattle.rules.specs.declared.Role.{Role}
+use Rattle.rules.specs.declared.Role.the-variants.{Unused, Index, Half, Uses, Binds, Child}
+use Rattle.rules.specs.declared.Row.{Row}
+use Rattle.rules.specs.Image.{nodesOf}
 use Rattle.rules.specs.Scope.{Names, has}
 use Rattle.rules.proofs.StrayRows.{strayWord, growWord}
 use Rattle.checklaws.specs.Hands.{handed}
@@ -26,37 +29,46 @@ pub record Shows (lo hi : ℕ) (visible : Names) : Type 0 where
 
 -- a word that uses or declares a name: the name has a bit
 abbrev pub NameFits : Role → ℕ → Type 0
-NameFits unused w = Unit {0}
-NameFits index w = Unit {0}
-NameFits half w = Unit {0}
-NameFits uses w = w < 128
-NameFits binds w = w < 128
-NameFits (child k) w = Unit {0}
+NameFits Unused w = Unit {0}
+NameFits Index w = Unit {0}
+NameFits Half w = Unit {0}
+NameFits Uses w = w < 128
+NameFits Binds w = w < 128
+NameFits (Child k) w = Unit {0}
 
 -- a child is given v
 abbrev pub given : Role → ℕ → ℕ → List ℕ → List ℕ
-given unused w v t = t
-given index w v t = t
-given half w v t = t
-given uses w v t = t
-given binds w v t = t
-given (child k) w v t = set t w v
+given Unused w v t = t
+given Index w v t = t
+given Half w v t = t
+given Uses w v t = t
+given Binds w v t = t
+given (Child k) w v t = set t w v
 
 -- what the nodes hold once those from n up have handed down
-pub record Shown (img : List ℕ) (n : ℕ) (los his : List ℕ) : Type 0 where
+pub record Shown (visible : Names) (img : List ℕ) (n : ℕ) (los his : List ℕ) : Type 0 where
+  pub shows : (k : ℕ) → k < length los → Shows (getD los k 0) (getD his k 0) (handed visible img n k)
+
+-- the lists have room for each node
+pub record Roomy (img los his : List ℕ) : Type 0 where
   pub long-lo : nodesOf img ≤ length los
   pub long-hi : length his ≡ length los
-  pub shows : (k : ℕ) → k < length los → Shows (getD los k 0) (getD his k 0) (handed img n k)
+
+-- and no node holds a name yet
+pub record Fresh (img los his : List ℕ) : Type 0 where
+  pub room : Roomy img los his
+  pub zero-lo : (k : ℕ) → getD los k 0 ≡ 0
+  pub zero-hi : (k : ℕ) → getD his k 0 ≡ 0
 
 -- each child of a node is
-abbrev pub givenAll : Role → Role → Role → Node → ℕ → List ℕ → List ℕ
-givenAll p q r x v t = given r (x .c) v (given q (x .b) v (given p (x .a) v t))
+abbrev pub givenAll : Row → Node → ℕ → List ℕ → List ℕ
+givenAll r x v t = given (r .c) (x .c) v (given (r .b) (x .b) v (given (r .a) (x .a) v t))
 
 -- node n, of these roles and words, hands its names down in the lists los and his, and strays or not
-pub record Visited (p q r : Role) (x : Node) (n : ℕ) (los his los′ his′ : List ℕ) (bad : Bool) : Type 0 where
+pub record Visited (r : Row) (x : Node) (n : ℕ) (los his los′ his′ : List ℕ) (bad : Bool) : Type 0 where
   pub lo : ℕ
   pub hi : ℕ
-  pub gives-lo : los′ ≡ givenAll p q r x lo los
-  pub gives-hi : his′ ≡ givenAll p q r x hi his
-  pub grows : (visible : Names) → Shows (getD los n 0) (getD his n 0) visible → Shows lo hi (growWord visible p (x .a))
-  pub strays : (visible : Names) → Shows (getD los n 0) (getD his n 0) visible → bad ≡ strayWord visible p (x .a)
+  pub gives-lo : los′ ≡ givenAll r x lo los
+  pub gives-hi : his′ ≡ givenAll r x hi his
+  pub grows : (visible : Names) → Shows (getD los n 0) (getD his n 0) visible → Shows lo hi (growWord visible (r .a) (x .a))
+  pub strays : (visible : Names) → Shows (getD los n 0) (getD his n 0) visible → bad ≡ strayWord visible (r .a) (x .a)

@@ -1,28 +1,29 @@
 -- Rule 9 from the last node down: each node hands its visible names to its children, and `var` and `proc` add theirs.
--- `handed img n k` are the names that node k holds once the nodes from n up have handed down; the root holds none. A node
+-- `handed visible img n k` are the names that node k holds once the nodes from n up have handed down; the root
+-- holds those visible there. A node
 -- strays when it uses a name that it doesn't hold. That this is the strays of the tree, in a script whose nodes fit and
 -- are each used once, is shown in proofs/Hands. Assumes nothing.
 use Prim.Native.Nat.{ℕ, zero, suc, _+_, _-_, _<_}
 use mathlib.Core.Path.{_≡_}
-use mathlib.Core.Bool.{Bool, false, cond, not}
-use mathlib.Core.Option.{Option, none, some}
-use mathlib.Core.List.{List, [], _∷_}
-use lib.Dec.{ltb}
-use Rattle.rules.specs.declared.Node.{Node}
-use Rattle.rules.specs.Image.{aCmd, kindOf, Role, unused, index, half, uses, binds, child, Row, row, rowOf, nodesOf, nodeAt}
-use Rattle.rules.specs.Scope.{Names, has}
+use mathlib.Core.Bool.{Bool, cond}
+use mathlib.Core.Option.{some}
+use mathlib.Core.List.{List, []}
+use lib.Dec.{eqb, ltb}
+use Rattle.rules.specs.declared.Kind.the-variants.{Cmd as aCmd}
+use Rattle.rules.specs.Image.{kindOf, rowOf, nodesOf, nodeAt}
+use Rattle.rules.specs.Scope.{Names}
 use Rattle.rules.specs.Refusals.{hits, usesOf}
-use Rattle.rules.proofs.GoodFacts.{Sized, RowFits}
-use Rattle.rules.proofs.StrayRows.{strayWord, growWord, strayRow, growRow}
+use Rattle.rules.proofs.GoodFacts.{Sized, GoodRow}
+use Rattle.rules.proofs.StrayRows.{strayRow, growRow}
 
 -- what is known of a script when rule 9 is looked at
 pub record Formed (img : List ℕ) : Type 0 where
   pub sized : Sized img
-  pub nodes : (n : ℕ) → n < nodesOf img → RowFits img n (rowOf (nodeAt img n .tag)) (nodeAt img n)
+  pub nodes : (n : ℕ) → n < nodesOf img → GoodRow img n (rowOf (nodeAt img n .tag)) (nodeAt img n)
   pub once : (n : ℕ) → suc n < nodesOf img → usesOf img n (nodesOf img) ≡ 1
   pub root : kindOf (nodeAt img (nodesOf img - 1) .tag) ≡ some aCmd
 
-module _ (img : List ℕ) where
+module _ (visible : Names) (img : List ℕ) where
   -- node n, which holds T n, hands down
   unfoldable pub handOn : ℕ → (ℕ → Names) → ℕ → Names
   handOn n T k =
@@ -30,9 +31,9 @@ module _ (img : List ℕ) where
       (growRow (T n) (rowOf (nodeAt img n .tag)) (nodeAt img n))
       (T k)
 
-  -- the last j nodes have handed down
+  -- the last j nodes have handed down; before the first has, the last holds the names visible at the root, and no other any
   unfoldable pub handedBy : ℕ → ℕ → Names
-  handedBy zero k = []
+  handedBy zero k = cond (eqb (k + 1) (nodesOf img)) visible []
   handedBy (suc j) k = handOn (nodesOf img - suc j) (handedBy j) k
 
   -- the nodes from n up have

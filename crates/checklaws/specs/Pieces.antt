@@ -1,6 +1,6 @@
 -- The pieces of the check (document 01, "Refused scripts"): what each answers, in the words of rules/specs/Refusals.
 -- A reason is its number; 0 is none. The rules after 10 don't look at the workspace, so their pieces are stated for one
--- of the full size. That the pieces make the check is shown in proofs/Whole. Assumes nothing.
+-- of the full size; only 9 looks at the names visible at the root, so those of the others are stated for none. That the pieces make the check is shown in proofs/Whole. Assumes nothing.
 use Prim.Native.Nat.{ℕ}
 use mathlib.Core.Bool.{Bool, cond, not, _&&_}
 use mathlib.Core.Option.{Option, none}
@@ -10,9 +10,13 @@ use lib.Dec.{eqb, ltb, leb}
 use Rattle.rules.specs.declared.Node.{Node}
 use Rattle.rules.specs.declared.Verdict.{Verdict}
 use Rattle.rules.specs.declared.Verdict.the-variants.{Accepted, Refused}
-use Rattle.rules.specs.Image.{Kind, Role, kindOf, fieldsOf, namesOf, nodeAt}
+use Rattle.rules.specs.declared.Kind.{Kind}
+use Rattle.rules.specs.declared.Kind.the-variants.{Exp as anExp, Test as aTest, Cmd as aCmd}
+use Rattle.rules.specs.declared.Row.{Row}
+use Rattle.rules.specs.Image.{kindOf, fieldsOf, namesOf, nodeAt}
 use Rattle.rules.specs.Refusals.{Reason, wrongCode, noSuchTag, unusedWord, wrongOperand, notOnce, undeclared, badContents, rightLength, blank, suits, atPlace, lowest}
 use Rattle.rules.specs.State.{size}
+use Rattle.rules.specs.Scope.{Names}
 use Rattle.rules.proofs.ReasonTable.{broken}
 
 -- the verdict of a reason at a place
@@ -41,21 +45,31 @@ nameRules = undeclared ∷ []
 
 -- what rules say at one place, and at the places below n
 unfoldable pub placeSays : List ℕ → List Reason → ℕ → Verdict
-placeSays img rs p = atPlace (broken size img) rs p
+placeSays img rs p = atPlace (broken [] size img) rs p
 
 unfoldable pub rulesSay : List ℕ → List Reason → ℕ → Verdict
-rulesSay img rs n = lowest (broken size img) rs n
+rulesSay img rs n = lowest (broken [] size img) rs n
+
+-- 9, with these names visible at the root
+unfoldable pub namesSay : Names → List ℕ → ℕ → Verdict
+namesSay visible img n = lowest (broken visible size img) nameRules n
 
 -- 6 and 7, of the roles of a node's words
-unfoldable pub wordsReason : List ℕ → ℕ → Role → Role → Role → Node → ℕ
-wordsReason img n p q r x =
-    cond (blank p (x .a) && blank q (x .b) && blank r (x .c))
-    (cond (suits img n p (x .a) && suits img n q (x .b) && suits img n r (x .c)) 0 7)
+unfoldable pub wordsReason : List ℕ → ℕ → Row → Node → ℕ
+wordsReason img n r x =
+    cond (blank (r .a) (x .a) && blank (r .b) (x .b) && blank (r .c) (x .c))
+    (cond (suits img n (r .a) (x .a) && suits img n (r .b) (x .b) && suits img n (r .c) (x .c)) 0 7)
     6
 
 -- the kind of a child of node n; a child that isn't below n has none
 unfoldable pub childKind : List ℕ → ℕ → ℕ → Option Kind
 childKind img n w = cond (ltb w n) (kindOf (nodeAt img w .tag)) none
+
+-- kinds by numbers, to tell them apart
+abbrev pub kindIndex : Kind → ℕ
+kindIndex anExp = 1
+kindIndex aTest = 2
+kindIndex aCmd = 3
 
 -- a field index, a name in range
 abbrev pub indexRight : List ℕ → ℕ → Bool

@@ -4,7 +4,8 @@ use mathlib.Core.Path.{_≡_}
 use mathlib.Core.Option.{none, some}
 use native.Mathlib.Omega.{arith}
 use borrow.Author.Tests.{le-leb, lt-leb}
-use Rattle.rules.specs.Image.{anExp, aTest, aCmd, kindOf}
+use Rattle.rules.specs.declared.Kind.the-variants.{Exp as anExp, Test as aTest, Cmd as aCmd}
+use Rattle.rules.specs.Image.{kindOf}
 
 module _ (x : ℕ) where
   pub below-all : x < 1 → none ≡ kindOf x

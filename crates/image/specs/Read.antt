@@ -5,7 +5,7 @@ use mathlib.Core.List.{List}
 use Rattle.rules.specs.Image.{nodeAt}
 use Rattle.rules.specs.declared.Node.{Node}
 
-pub record At (img : List ℕ) (n : ℕ) (x : Node) : Type 0 where
+pub record NodeRead (img : List ℕ) (n : ℕ) (x : Node) : Type 0 where
   pub is : x ≡ nodeAt img n
   pub small-tag : x .tag < 65536
   pub small-a : x .a < 65536

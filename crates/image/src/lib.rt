@@ -3,44 +3,29 @@
 //
 // Zero is no tag: `Sort::Nothing` and `Shape::NoTag` stand for it and for every other number that is none.
 
+use rules::Kind;
 use rules::Node;
+use rules::Role;
+use rules::Row;
 ghost use mathlib.Core.Path.{_≡_};
 ghost use Prim.Native.Nat.{_+_, _*_, _<_, _≤_};
+ghost use mathlib.Core.Option.{some};
 ghost use lib.ListN.{length};
-ghost use Rattle.rules.specs.Image.{wordAt, fieldsOf, nodesOf, namesOf, codeAt, partOf, kindOf, rowOf};
+ghost use Rattle.rules.specs.Image.{wordAt, fieldsOf, nodesOf, namesOf, codeAt, partOf, kindOf, row, rowOf};
 ghost use Rattle.rules.proofs.GoodFacts.{Sized};
-ghost use Rattle.image.specs.Read.{At};
-ghost use Rattle.image.specs.Tags.{kindIs, rolesIs, rolesOf};
+ghost use Rattle.image.specs.Read.{NodeRead};
+ghost use Rattle.image.specs.Tags.{kindIs, rowIs};
 
 // What a tag says a node is.
 pub enum Sort {
     Nothing,
-    Exp,
-    Test,
-    Cmd,
+    Of(Kind),
 }
 
-// What a word of a node is.
-pub enum Operand {
-    // zero
-    Unused,
-    // a field index, 1..F
-    Index,
-    // half of an integer
-    Half,
-    // a name that is used
-    Uses,
-    // a name that is declared
-    Binds,
-    ChildExp,
-    ChildTest,
-    ChildCmd,
-}
-
-// What a tag's words are: a, b and c.
+// What a tag's words are.
 pub enum Shape {
     NoTag,
-    Words(Operand, Operand, Operand),
+    Words(Row),
 }
 
 // A byte as a number.
@@ -101,7 +86,7 @@ fn part(img: &[u8], start: usize, n: usize, i: usize) -> usize
     word(img, start + 8 * n + 2 * i)
 }
 
-fn start(img: &[u8]) -> usize
+fn nodes_at(img: &[u8]) -> usize
     requires { ⌜ Sized (now img) ⌝ }
     ensures { λ r. ⌜ r ≡ 10 + 2 * fieldsOf (now (img .entry)) ⌝ }
 {
@@ -112,9 +97,9 @@ fn start(img: &[u8]) -> usize
 pub fn read(img: &[u8], n: usize) -> Node
     requires { ⌜ Sized (now img) ⌝ }
     requires { ⌜ n < nodesOf (now img) ⌝ }
-    ensures { λ r. ⌜ At (now (img .entry)) n r ⌝ }
+    ensures { λ r. ⌜ NodeRead (now (img .entry)) n r ⌝ }
 {
-    let from = start(img);
+    let from = nodes_at(img);
     Node {
         tag: part(img, from, n, 0),
         a: part(img, from, n, 1),
@@ -128,62 +113,80 @@ pub fn kind(tag: usize) -> Sort
     ensures { λ r. ⌜ kindIs r ≡ kindOf tag ⌝ }
 {
     match tag {
-        1..=7 => Sort::Exp,
-        16..=19 => Sort::Test,
-        32..=42 => Sort::Cmd,
+        1..=7 => Sort::Of(Kind::Exp),
+        16..=19 => Sort::Of(Kind::Test),
+        32..=42 => Sort::Of(Kind::Cmd),
         _ => Sort::Nothing,
     }
 }
 
+fn words(a: Role, b: Role, c: Role) -> Shape
+    ensures { λ r. ⌜ rowIs r ≡ some (row a b c) ⌝ }
+{
+    Shape::Words(Row { a, b, c })
+}
+
 // The table of tags: what the words a, b and c of a node are.
 pub fn operands(tag: usize) -> Shape
-    ensures { λ r. ⌜ rolesIs r ≡ rolesOf (rowOf tag) ⌝ }
+    ensures { λ r. ⌜ rowIs r ≡ rowOf tag ⌝ }
 {
     match tag {
         // field
-        1 => Shape::Words(Operand::Index, Operand::Unused, Operand::Unused),
+        1 => words(Role::Index, Role::Unused, Role::Unused),
         // integer
-        2 => Shape::Words(Operand::Half, Operand::Half, Operand::Unused),
+        2 => words(Role::Half, Role::Half, Role::Unused),
         // difference
-        3 => Shape::Words(Operand::ChildExp, Operand::ChildExp, Operand::Unused),
+        3 => words(Role::Child(Kind::Exp), Role::Child(Kind::Exp), Role::Unused),
         // null
-        4 => Shape::Words(Operand::Unused, Operand::Unused, Operand::Unused),
+        4 => words(Role::Unused, Role::Unused, Role::Unused),
         // variable
-        5 => Shape::Words(Operand::Uses, Operand::Unused, Operand::Unused),
+        5 => words(Role::Uses, Role::Unused, Role::Unused),
         // selection
-        6 => Shape::Words(Operand::ChildExp, Operand::ChildExp, Operand::Unused),
+        6 => words(Role::Child(Kind::Exp), Role::Child(Kind::Exp), Role::Unused),
         // proc
-        7 => Shape::Words(Operand::Binds, Operand::ChildCmd, Operand::Unused),
+        7 => words(Role::Binds, Role::Child(Kind::Cmd), Role::Unused),
         // true
-        16 => Shape::Words(Operand::Unused, Operand::Unused, Operand::Unused),
+        16 => words(Role::Unused, Role::Unused, Role::Unused),
         // false
-        17 => Shape::Words(Operand::Unused, Operand::Unused, Operand::Unused),
+        17 => words(Role::Unused, Role::Unused, Role::Unused),
         // equal
-        18 => Shape::Words(Operand::ChildExp, Operand::ChildExp, Operand::Unused),
+        18 => words(Role::Child(Kind::Exp), Role::Child(Kind::Exp), Role::Unused),
         // less
-        19 => Shape::Words(Operand::ChildExp, Operand::ChildExp, Operand::Unused),
+        19 => words(Role::Child(Kind::Exp), Role::Child(Kind::Exp), Role::Unused),
         // var
-        32 => Shape::Words(Operand::Binds, Operand::ChildCmd, Operand::Unused),
+        32 => words(Role::Binds, Role::Child(Kind::Cmd), Role::Unused),
         // call
-        33 => Shape::Words(Operand::ChildExp, Operand::ChildExp, Operand::Unused),
+        33 => words(Role::Child(Kind::Exp), Role::Child(Kind::Exp), Role::Unused),
         // malloc
-        34 => Shape::Words(Operand::Uses, Operand::Unused, Operand::Unused),
+        34 => words(Role::Uses, Role::Unused, Role::Unused),
         // assign
-        35 => Shape::Words(Operand::Uses, Operand::ChildExp, Operand::Unused),
+        35 => words(Role::Uses, Role::Child(Kind::Exp), Role::Unused),
         // field assign
-        36 => Shape::Words(Operand::ChildExp, Operand::ChildExp, Operand::ChildExp),
+        36 => words(
+            Role::Child(Kind::Exp),
+            Role::Child(Kind::Exp),
+            Role::Child(Kind::Exp),
+        ),
         // skip
-        37 => Shape::Words(Operand::Unused, Operand::Unused, Operand::Unused),
+        37 => words(Role::Unused, Role::Unused, Role::Unused),
         // sequence
-        38 => Shape::Words(Operand::ChildCmd, Operand::ChildCmd, Operand::Unused),
+        38 => words(Role::Child(Kind::Cmd), Role::Child(Kind::Cmd), Role::Unused),
         // while
-        39 => Shape::Words(Operand::ChildTest, Operand::ChildCmd, Operand::Unused),
+        39 => words(
+            Role::Child(Kind::Test),
+            Role::Child(Kind::Cmd),
+            Role::Unused,
+        ),
         // if
-        40 => Shape::Words(Operand::ChildTest, Operand::ChildCmd, Operand::ChildCmd),
+        40 => words(
+            Role::Child(Kind::Test),
+            Role::Child(Kind::Cmd),
+            Role::Child(Kind::Cmd),
+        ),
         // parallel
-        41 => Shape::Words(Operand::ChildCmd, Operand::ChildCmd, Operand::Unused),
+        41 => words(Role::Child(Kind::Cmd), Role::Child(Kind::Cmd), Role::Unused),
         // atom
-        42 => Shape::Words(Operand::ChildCmd, Operand::Unused, Operand::Unused),
+        42 => words(Role::Child(Kind::Cmd), Role::Unused, Role::Unused),
         _ => Shape::NoTag,
     }
 }

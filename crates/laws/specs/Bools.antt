@@ -17,15 +17,15 @@ pub or-right : (a b : Bool) → (a || b) ≡ false → b ≡ false
 or-right a b e = or-neither a b e .1
 
 -- the answer to a question
-abbrev pub Decided : Bool → Type 0 → Type 0
-Decided true A = A
-Decided false A = A → ⊥
+abbrev pub TrueIff : Bool → Type 0 → Type 0
+TrueIff true A = A
+TrueIff false A = A → ⊥
 
-pub decided-one : (r q : Bool) (A : Type 0) → Decided r A → Decided q A → r ≡ q
-decided-one true true A a b = refl
-decided-one true false A a b = absurd (b a)
-decided-one false true A a b = absurd (a b)
-decided-one false false A a b = refl
+pub true-iff-one : (r q : Bool) (A : Type 0) → TrueIff r A → TrueIff q A → r ≡ q
+true-iff-one true true A a b = refl
+true-iff-one true false A a b = absurd (b a)
+true-iff-one false true A a b = absurd (a b)
+true-iff-one false false A a b = refl
 
 pub or-assoc : (a b c : Bool) → (a || (b || c)) ≡ (a || b || c)
 or-assoc true b c = refl

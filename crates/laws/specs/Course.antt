@@ -2,7 +2,7 @@
 -- `tab f d n` has the answers below n, and the nothing d everywhere else; `cov f d n` is the answer at n.
 -- `below` is the equation that a reader expects. Assumes nothing.
 use Prim.Native.Nat.{ℕ, zero, suc, _<_}
-use mathlib.Core.Path.{_≡_, refl, sym, ap}
+use mathlib.Core.Path.{_≡_, sym, ap}
 use mathlib.Core.Bool.{cond}
 use mathlib.Core.Logic.{⊎-elim}
 use native.Mathlib.Omega.{arith}

@@ -5,7 +5,7 @@ use Prim.Native.Nat.{ℕ, _+_, _*_, _<_, _≤_}
 use mathlib.Core.Path.{_≡_, refl, sym, ap, _∙_}
 use mathlib.Core.Bool.{Bool, true, false, cond, not}
 use mathlib.Core.Option.{some}
-use mathlib.Core.List.{List}
+use mathlib.Core.List.{List, []}
 use native.Mathlib.Omega.{arith}
 use native.Mathlib.Decide.{decLt}
 use lib.ListN.{length, take}
@@ -34,19 +34,19 @@ counts img e =
     let j = or-neither (not (eqb (fieldStart img) 10)) (ltb 16 (fieldsOf img)) (i .0) in
     (ltb-false 16 (fieldsOf img) (j .1), ltb-false 2048 (nodesOf img) (g .1))
 
-too-long : (img : List ℕ) → 16426 < length img → check size img ≡ cond (badContents img) (Refused 2 0) (Refused 3 0)
-unfolding lowest atPlace orElse size rightLength ruleOf rule
+too-long : (img : List ℕ) → 16426 < length img → check [] size img ≡ cond (badContents img) (Refused 2 0) (Refused 3 0)
+unfolding lowest atPlace orElse rightLength ruleOf rule
 too-long img h = go (badContents img) refl
   where
     short : ltb (length img) 10 ≡ false
     short = le-ltb (length img) 10 (omega arith)
 
-    go : (b : Bool) → badContents img ≡ b → check size img ≡ cond b (Refused 2 0) (Refused 3 0)
-    go true e = check-in-order size img ∙ rw (short, e)
+    go : (b : Bool) → badContents img ≡ b → check [] size img ≡ cond b (Refused 2 0) (Refused 3 0)
+    go true e = check-in-order [] size img ∙ rw (short, e)
     go false e =
         let c = counts img e in
         let n : eqb (length img) (10 + 2 * fieldsOf img + 8 * nodesOf img) ≡ false = ne-eqb (length img) (10 + 2 * fieldsOf img + 8 * nodesOf img) (λ z. omega (arith, c .0, c .1)) in
-        check-in-order size img ∙ rw (short, e, n)
+        check-in-order [] size img ∙ rw (short, e, n)
 
 -- the contents are among the first bytes
 same-word : (img : List ℕ) (i : ℕ) → i < 10 → wordAt (take 16427 img) i ≡ wordAt img i
@@ -63,7 +63,7 @@ same-contents img = go (take 16427 img) (same-word img 0 (omega arith)) (same-wo
 -- ---- what is printed
 
 -- two such scripts with the same contents
-long-listing : (img img′ cs : List ℕ) (b : Bool) → check size img ≡ cond b (Refused 2 0) (Refused 3 0) → check size img′ ≡ cond b (Refused 2 0) (Refused 3 0)
+long-listing : (img img′ cs : List ℕ) (b : Bool) → check [] size img ≡ cond b (Refused 2 0) (Refused 3 0) → check [] size img′ ≡ cond b (Refused 2 0) (Refused 3 0)
     → listing img cs ≡ listing img′ cs
 unfolding listing listingLines linesBy
 long-listing img img′ cs true e f = rw (e, f)

@@ -3,10 +3,9 @@
 use Prim.Native.Nat.{ℕ, _+_, _*_, _≤_}
 use mathlib.Core.Path.{_≡_, refl, sym, ap, _∙_}
 use mathlib.Core.Option.{some}
-use mathlib.Core.List.{List, _++_, append-nil, flatten}
+use mathlib.Core.List.{List, [], _++_, append-nil, flatten}
 use native.Mathlib.Omega.{arith}
-use lib.ListN.{length, drop, getElem?}
-use Rattle.rules.specs.declared.Value.{Value}
+use lib.ListN.{length, drop}
 use Rattle.rules.specs.declared.Verdict.{Verdict}
 use Rattle.rules.specs.declared.Verdict.the-variants.{Accepted, Refused}
 use Rattle.rules.specs.declared.Answer.{Answer}
@@ -14,18 +13,18 @@ use Rattle.rules.specs.declared.Answer.the-variants.{Refusal, Ending}
 use Rattle.rules.specs.declared.End.{End}
 use Rattle.rules.specs.Image.{fieldsOf}
 use Rattle.rules.specs.Refusals.{check}
-use Rattle.rules.specs.State.{size, Store}
+use Rattle.rules.specs.State.{size, Store, AnObject, objectAt}
 use Rattle.rules.specs.Published.{Bytes}
 use Rattle.words.specs.Layout.{layout}
 use Rattle.words.specs.Lent.{rowsOf, placeRows, wordsAfterRun, wordsAfter, rowsAfterRun, rowsAfter}
-use Rattle.rules.specs.Run.{Ran, runScript, answered, answerOf}
+use Rattle.rules.specs.Run.{Ran, runScript, answered, answerOf, bare}
 use Rattle.rules.specs.Script.{scriptOf, rootOf}
 use Rattle.rules.proofs.Good.{good}
 use Rattle.rules.proofs.Runs.{script-steps}
 use Rattle.safety.specs.Safe.{Safe}
 use Rattle.safety.proofs.Accepted.{accepted-fits}
-use Rattle.safety.proofs.Preserved.{run-sound}
-use Rattle.words.specs.Lies.{Lies}
+use Rattle.safety.proofs.Preserved.{run-sound, bare-given}
+use Rattle.words.specs.LaidOut.{LaidOut}
 use Rattle.words.specs.Contracts.{Traces}
 use Rattle.holds.proofs.Fitting.{store-good}
 use Rattle.report.specs.Listing.{refusedLine, runLines, linesBy, listingLines, listing}
@@ -57,32 +56,32 @@ module _ (img cs : List ℕ) where
   left = runScript img cs
 
   -- the text of a refused script
-  text-refused : (k p : ℕ) → check size img ≡ Refused k p → refusedLine k p ≡ listing img cs
+  text-refused : (k p : ℕ) → check [] size img ≡ Refused k p → refusedLine k p ≡ listing img cs
   unfolding listing listingLines linesBy flatten
   text-refused k p e = rw (e, append-nil)
 
-  text-accepted : check size img ≡ Accepted → flatten (runLines img (rowsOf img cs) left) ≡ listing img cs
+  text-accepted : check [] size img ≡ Accepted → flatten (runLines img (rowsOf img cs) left) ≡ listing img cs
   unfolding listing listingLines linesBy
   text-accepted e = rw e
 
-  module _ (are-bytes : Bytes img) (ok : check size img ≡ Accepted) where
+  module _ (are-bytes : Bytes img) (ok : check [] size img ≡ Accepted) where
     safe : Safe (scriptOf img) (left .store) (left .control)
     unfolding runScript
-    safe = run-sound (scriptOf img) (rootOf img) cs (accepted-fits size img are-bytes ok) .safe
+    safe = run-sound (scriptOf img) bare (bare-given (scriptOf img)) (rootOf img) (accepted-fits [] size img are-bytes ok) cs .safe
 
     -- an object holds F values
-    full : (k : ℕ) (vs : List Value) → getElem? (left .store .objects) k ≡ some vs → length vs ≡ fieldsOf img
+    full : (k : ℕ) (obj : AnObject) → objectAt (left .store) k ≡ some obj → length (obj .values) ≡ fieldsOf img
     unfolding scriptOf
-    full k vs e = safe .store .objects k vs e .long
+    full k obj e = safe .store .objects k obj e .long
 
-    lies : (rest ws : List ℕ) → ws ≡ layout (left .store) (left .control) ++ rest → Lies (left .store) (left .control) rest ws
-    lies rest ws e = record { good = store-good img (good size img ok) (left .store) (safe .store) (left .control) (safe .control); is = e }
+    laid-out : (rest ws : List ℕ) → ws ≡ layout (left .store) (left .control) ++ rest → LaidOut (left .store) (left .control) rest ws
+    laid-out rest ws e = record { good = store-good img (good [] size img ok) (left .store) (safe .store) (left .control) (safe .control); is = e }
 
     run-text : (rest ws lent rows : List ℕ) (e : End) (n : ℕ) → ws ≡ layout (left .store) (left .control) ++ rest
         → rows ≡ placeRows lent 0 (rowsOf img cs) → 5 * n ≤ length lent → e ≡ left .end → n ≡ left .steps
         → runText img ws rows e n ≡ listing img cs
     run-text rest ws lent rows e n is placed room ends steps =
-        let l = lies rest ws is in
+        let l = laid-out rest ws is in
         let count : n ≡ length (rowsOf img cs) = steps ∙ row-count img cs in
         let read : rowsIn rows n ≡ rowsOf img cs =
         rw (placed, count) (rows-are (rowsOf img cs) lent (omega arith)) in
@@ -94,33 +93,33 @@ module _ (img cs : List ℕ) where
 
 -- ---- a traced run with a workspace of the size and rows for 4,096 steps
 
-module _ (img cs : List ℕ) (a : Answer) (ws after lent rows : List ℕ) (says : Traces img cs a ws after lent rows) (sized : length ws ≡ 5378) where
-  answer-is : a ≡ answered (check size img) (runScript img cs)
-  unfolding answerOf size
+module _ (img cs : List ℕ) (a : Answer) (ws after lent rows : List ℕ) (says : Traces img cs a ws after lent rows) (sized : length ws ≡ size) where
+  answer-is : a ≡ answered (check [] size img) (runScript img cs)
+  unfolding answerOf
   answer-is = says .answer ∙ ap (λ (n : ℕ). answerOf n img cs) sized
 
   pub listed-refused : (k p r : ℕ) (d o : List ℕ) → a ≡ Refusal k p → Line 128 (refusedLine k p) d r o → Line 1179904 (listing img cs) d r o
   listed-refused k p r d o e w =
-      let z = refused-by (check size img) (runScript img cs) k p (sym answer-is ∙ e) in
+      let z = refused-by (check [] size img) (runScript img cs) k p (sym answer-is ∙ e) in
       line-same 128 1179904 r (refusedLine k p) (listing img cs) d o w (text-refused img cs k p z) (omega arith)
 
   module _ (few : length cs ≤ 4096) (e : End) (n : ℕ) (ends : a ≡ Ending e n) where
-    behind : (check size img ≡ Accepted) × (e ≡ runScript img cs .end) × (n ≡ runScript img cs .steps)
-    behind = accepted-by (check size img) (runScript img cs) e n (sym answer-is ∙ ends)
+    behind : (check [] size img ≡ Accepted) × (e ≡ runScript img cs .end) × (n ≡ runScript img cs .steps)
+    behind = accepted-by (check [] size img) (runScript img cs) e n (sym answer-is ∙ ends)
 
     few-steps : n ≤ 4096
     few-steps = let l = script-steps img cs in let s = behind .2 in omega arith
 
     -- what the printing of the run asks
-    pub run-asks : (d : List ℕ) → 1179904 ≤ length d → length rows ≡ 20480 → length after ≡ 5378
-        → (128 * (n + 5122) ≤ length d) × ((10 ≤ length img) × ((5378 ≤ length after) × (5 * n ≤ length rows)))
+    pub run-asks : (d : List ℕ) → 1179904 ≤ length d → length rows ≡ 20480 → length after ≡ size
+        → (128 * (n + 5122) ≤ length d) × ((10 ≤ length img) × ((size ≤ length after) × (5 * n ≤ length rows)))
     run-asks d h l s =
         let f = few-steps in
-        (omega arith, (good size img (behind .0) .sized .long-enough, (omega arith, omega arith)))
+        (omega arith, (good [] size img (behind .0) .sized .long-enough, (omega arith, omega arith)))
 
     pub listed-run : Bytes img → length lent ≡ 20480 → (r : ℕ) (d o : List ℕ) → Line (128 * (n + 5122)) (runText img after rows e n) d r o
         → Line 1179904 (listing img cs) d r o
-    unfolding wordsAfter wordsAfterRun rowsAfter rowsAfterRun size
+    unfolding wordsAfter wordsAfterRun rowsAfter rowsAfterRun
     listed-run are-bytes long r d o w =
         let f = few-steps in
         let b = behind in

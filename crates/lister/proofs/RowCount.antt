@@ -6,13 +6,11 @@ use mathlib.Core.Option.{Option, none, some}
 use mathlib.Core.List.{List, [], _∷_}
 use native.Mathlib.Omega.{arith}
 use lib.ListN.{length, getElem?}
-use Rattle.rules.specs.declared.Chain.the-variants.{Empty}
 use Rattle.rules.specs.declared.End.the-variants.{Stopped}
 use Rattle.rules.specs.declared.Stop.the-variants.{Full}
-use Rattle.rules.specs.State.{empty}
-use Rattle.rules.specs.Control.{Control, fits, Move, move, movable, opened, Outcome, goesTo, stops}
+use Rattle.rules.specs.Control.{Control, fits, Move, move, movable, Outcome, goesTo, stops}
 use Rattle.rules.specs.Step.{Machine, chosen, plan, follow, step, miniOO}
-use Rattle.rules.specs.Run.{ran, onward, runFrom, run, runScript, begins}
+use Rattle.rules.specs.Run.{ran, onward, runFrom, run, runScript, begins, bare, Start}
 use Rattle.rules.specs.Script.{scriptOf, rootOf}
 use Rattle.words.specs.Lent.{rowThen, rowsFrom, rows, stepRow, rowsOf}
 
@@ -37,16 +35,16 @@ module _ {S E A : Type 0} (m : Machine S E) (keep : ℕ → ℕ → S → A) whe
       go ih none e = unfold step plan chosen follow onward rowThen ran in rw e (omega arith)
       go ih (some v) e = rw e (on ih v (step m s t i))
 
-  whole : (s : S) (root : ℕ) (cs : List ℕ) → run m s root cs .steps ≡ length (rows m keep s root cs)
-  unfolding run rows ran begins
-  whole s root cs = go (fits (some (opened (m .cmdAt root) Empty)))
+  whole : (st : Start S) (root : ℕ) (cs : List ℕ) → run m st root cs .steps ≡ length (rows m keep st root cs)
+  unfolding run rows ran
+  whole st root cs = go (fits (some (begins m st root)))
     where
       go : (b : Bool)
-          → cond b (runFrom m cs 0 s (some (opened (m .cmdAt root) Empty))) (ran (Stopped (Full 3)) 0 s none) .steps
-          ≡ length (cond b (rowsFrom m keep cs s (some (opened (m .cmdAt root) Empty))) [])
-      go true = let e = from cs 0 s (some (opened (m .cmdAt root) Empty)) in omega arith
+          → cond b (runFrom m cs 0 (st .store) (some (begins m st root))) (ran (Stopped (Full 3)) 0 (st .store) none) .steps
+          ≡ length (cond b (rowsFrom m keep cs (st .store) (some (begins m st root))) [])
+      go true = let e = from cs 0 (st .store) (some (begins m st root)) in omega arith
       go false = refl
 
 pub row-count : (img cs : List ℕ) → runScript img cs .steps ≡ length (rowsOf img cs)
 unfolding runScript rowsOf
-row-count img cs = whole (miniOO (scriptOf img)) (stepRow img) empty (rootOf img) cs
+row-count img cs = whole (miniOO (scriptOf img)) (stepRow img) bare (rootOf img) cs

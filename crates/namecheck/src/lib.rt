@@ -1,10 +1,11 @@
 // Rule 9 (document 01, "Refused scripts"): a name used where it isn't declared. A loop from the last node down: when a
 // node is reached, its visible names are known, and it hands them to its children, with the name that it declares.
-// Names are 0 to 127, so those of a node are two words of 64 bits. The lowest node that strays is the last one found.
+// The root's are given. Names are 0 to 127, so those of a node are two words of 64 bits. The lowest node that strays is the last one found.
 
-use image::Operand;
 use image::Shape;
 use rules::Node;
+use rules::Role;
+use rules::Row;
 use rules::Verdict;
 ghost use mathlib.Core.Path.{_≡_};
 ghost use mathlib.Core.Bool.{cond};
@@ -14,11 +15,10 @@ ghost use lib.ListN.{length, set};
 ghost use Rattle.rules.specs.declared.Verdict.the-variants.{Refused};
 ghost use Rattle.rules.specs.Image.{nodesOf};
 ghost use Rattle.rules.specs.Scope.{Names, has};
-ghost use Rattle.image.specs.Tags.{roleIs};
-ghost use Rattle.checklaws.specs.Pieces.{nameRules, rulesSay};
+ghost use Rattle.checklaws.specs.Pieces.{namesSay};
 ghost use Rattle.checklaws.specs.Hands.{Formed, strayAt};
 ghost use Rattle.rules.proofs.StrayRows.{strayWord, growWord};
-ghost use Rattle.checklaws.specs.Bits.{bit, Adds, Shows, NameFits, given, givenAll, Shown, Visited};
+ghost use Rattle.checklaws.specs.Bits.{bit, Adds, Shows, NameFits, given, givenAll, Shown, Roomy, Fresh, Visited};
 
 // The visible names of a node: bit x of lo is name x, bit x of hi is name 64 + x.
 struct Held {
@@ -70,36 +70,24 @@ fn also(v: Held, x: usize) -> Held
 }
 
 // Does this word use a name that isn't visible?
-fn stray(p: Operand, w: usize, v: Held) -> bool
-    requires { ⌜ NameFits (roleIs p) w ⌝ }
-    ensures { λ r. ⌜ ((visible : Names) → Shows (v .lo) (v .hi) visible → r ≡ strayWord visible (roleIs p) w) ⌝ }
+fn stray(p: Role, w: usize, v: Held) -> bool
+    requires { ⌜ NameFits p w ⌝ }
+    ensures { λ r. ⌜ ((visible : Names) → Shows (v .lo) (v .hi) visible → r ≡ strayWord visible p w) ⌝ }
 {
     match p {
-        Operand::Unused => false,
-        Operand::Index => false,
-        Operand::Half => false,
-        Operand::Uses => !seen(v, w),
-        Operand::Binds => false,
-        Operand::ChildExp => false,
-        Operand::ChildTest => false,
-        Operand::ChildCmd => false,
+        Role::Uses => !seen(v, w),
+        _ => false,
     }
 }
 
 // The visible names, with the one that this word declares.
-fn grown(p: Operand, w: usize, v: Held) -> Held
-    requires { ⌜ NameFits (roleIs p) w ⌝ }
-    ensures { λ r. ⌜ ((visible : Names) → Shows (v .lo) (v .hi) visible → Shows (r .lo) (r .hi) (growWord visible (roleIs p) w)) ⌝ }
+fn grown(p: Role, w: usize, v: Held) -> Held
+    requires { ⌜ NameFits p w ⌝ }
+    ensures { λ r. ⌜ ((visible : Names) → Shows (v .lo) (v .hi) visible → Shows (r .lo) (r .hi) (growWord visible p w)) ⌝ }
 {
     match p {
-        Operand::Unused => v,
-        Operand::Index => v,
-        Operand::Half => v,
-        Operand::Uses => v,
-        Operand::Binds => also(v, w),
-        Operand::ChildExp => v,
-        Operand::ChildTest => v,
-        Operand::ChildCmd => v,
+        Role::Binds => also(v, w),
+        _ => v,
     }
 }
 
@@ -112,56 +100,43 @@ fn put(t: &mut [u64], w: usize, v: u64)
 }
 
 // A child is given v.
-fn give(t: &mut [u64], p: Operand, w: usize, v: u64)
-    ensures { λ _. ⌜ now (t .exit) ≡ given (roleIs p) w v (now (t .entry)) ⌝ }
+fn give(t: &mut [u64], p: Role, w: usize, v: u64)
+    ensures { λ _. ⌜ now (t .exit) ≡ given p w v (now (t .entry)) ⌝ }
 {
     match p {
-        Operand::Unused => {}
-        Operand::Index => {}
-        Operand::Half => {}
-        Operand::Uses => {}
-        Operand::Binds => {}
-        Operand::ChildExp => put(t, w, v),
-        Operand::ChildTest => put(t, w, v),
-        Operand::ChildCmd => put(t, w, v),
+        Role::Child(_) => put(t, w, v),
+        _ => {}
     }
 }
 
-fn give_words(t: &mut [u64], x: Node, p: Operand, q: Operand, r: Operand, v: u64)
-    ensures { λ _. ⌜ now (t .exit) ≡ givenAll (roleIs p) (roleIs q) (roleIs r) x v (now (t .entry)) ⌝ }
+fn give_words(t: &mut [u64], x: Node, r: Row, v: u64)
+    ensures { λ _. ⌜ now (t .exit) ≡ givenAll r x v (now (t .entry)) ⌝ }
 {
-    let a = x.a;
-    let b = x.b;
-    let c = x.c;
-    give(t, p, a, v);
-    give(t, q, b, v);
-    give(t, r, c, v);
+    let p = r.a;
+    let q = r.b;
+    let s = r.c;
+    give(t, p, x.a, v);
+    give(t, q, x.b, v);
+    give(t, s, x.c, v);
 }
 
-fn visit_words(
-    lo: &mut [u64],
-    hi: &mut [u64],
-    n: usize,
-    x: Node,
-    p: Operand,
-    q: Operand,
-    r: Operand,
-) -> bool
+fn visit_words(lo: &mut [u64], hi: &mut [u64], n: usize, x: Node, r: Row) -> bool
     requires { ⌜ (n < length (now lo)) × (n < length (now hi)) ⌝ }
-    requires { ⌜ NameFits (roleIs p) (x .a) ⌝ }
-    ensures { λ y. ⌜ Visited (roleIs p) (roleIs q) (roleIs r) x n (now (lo .entry)) (now (hi .entry)) (now (lo .exit)) (now (hi .exit)) y ⌝ }
+    requires { ⌜ NameFits (r .a) (x .a) ⌝ }
+    ensures { λ y. ⌜ Visited r x n (now (lo .entry)) (now (hi .entry)) (now (lo .exit)) (now (hi .exit)) y ⌝ }
 {
     let v = Held {
         lo: lo[n],
         hi: hi[n],
     };
+    let p = r.a;
     let a = x.a;
     let bad = stray(p, a, v);
     let g = grown(p, a, v);
     let l = g.lo;
     let h = g.hi;
-    give_words(lo, x, p, q, r, l);
-    give_words(hi, x, p, q, r, h);
+    give_words(lo, x, r, l);
+    give_words(hi, x, r, h);
     bad
 }
 
@@ -169,15 +144,15 @@ fn visit_words(
 fn visit(img: &[u8], lo: &mut [u64], hi: &mut [u64], n: usize) -> bool
     requires { ⌜ Formed (now img) ⌝ }
     requires { ⌜ n < nodesOf (now img) ⌝ }
-    requires { ⌜ Shown (now img) (n + 1) (now lo) (now hi) ⌝ }
-    ensures { λ r. ⌜ (r ≡ strayAt (now (img .entry)) n) × Shown (now (img .entry)) n (now (lo .exit)) (now (hi .exit)) ⌝ }
+    requires { ⌜ Roomy (now img) (now lo) (now hi) ⌝ }
+    ensures { λ r. ⌜ ((visible : Names) → Shown visible (now (img .entry)) (n + 1) (now (lo .entry)) (now (hi .entry)) → (r ≡ strayAt visible (now (img .entry)) n) × Shown visible (now (img .entry)) n (now (lo .exit)) (now (hi .exit))) ⌝ }
 {
     let x = image::read(img, n);
     let tag = x.tag;
     let shape = image::operands(tag);
     match shape {
         Shape::NoTag => false,
-        Shape::Words(p, q, r) => visit_words(lo, hi, n, x, p, q, r),
+        Shape::Words(r) => visit_words(lo, hi, n, x, r),
     }
 }
 
@@ -193,8 +168,8 @@ fn lowered(bad: bool, n: usize, v: Verdict) -> Verdict
 
 fn from_last(img: &[u8], lo: &mut [u64], hi: &mut [u64]) -> Verdict
     requires { ⌜ Formed (now img) ⌝ }
-    requires { ⌜ Shown (now img) (nodesOf (now img)) (now lo) (now hi) ⌝ }
-    ensures { λ r. ⌜ r ≡ rulesSay (now (img .entry)) nameRules (nodesOf (now (img .entry))) ⌝ }
+    requires { ⌜ Roomy (now img) (now lo) (now hi) ⌝ }
+    ensures { λ r. ⌜ ((visible : Names) → Shown visible (now (img .entry)) (nodesOf (now (img .entry))) (now (lo .entry)) (now (hi .entry)) → r ≡ namesSay visible (now (img .entry)) (nodesOf (now (img .entry)))) ⌝ }
 {
     let mut n = image::nodes(img);
     let mut v = Verdict::Accepted;
@@ -206,17 +181,30 @@ fn from_last(img: &[u8], lo: &mut [u64], hi: &mut [u64]) -> Verdict
     v
 }
 
-// A short script has short lists: clearing the long ones would take longer than all the rest of its check.
-pub fn all_names(img: &[u8]) -> Verdict
+// In fresh lists the root, which is the last node, is given the names visible there.
+fn from_root(img: &[u8], lo: &mut [u64], hi: &mut [u64], low: u64, high: u64) -> Verdict
     requires { ⌜ Formed (now img) ⌝ }
-    ensures { λ r. ⌜ r ≡ rulesSay (now (img .entry)) nameRules (nodesOf (now (img .entry))) ⌝ }
+    requires { ⌜ Fresh (now img) (now lo) (now hi) ⌝ }
+    ensures { λ r. ⌜ ((visible : Names) → Shows low high visible → r ≡ namesSay visible (now (img .entry)) (nodesOf (now (img .entry)))) ⌝ }
+{
+    let root = image::nodes(img) - 1;
+    put(lo, root, low);
+    put(hi, root, high);
+    from_last(img, lo, hi)
+}
+
+// With the names visible at the root: bit x of low is name x, bit x of high is name 64 + x. A short script has short lists:
+// clearing the long ones would take longer than all the rest of its check.
+pub fn all_names(img: &[u8], low: u64, high: u64) -> Verdict
+    requires { ⌜ Formed (now img) ⌝ }
+    ensures { λ r. ⌜ ((visible : Names) → Shows low high visible → r ≡ namesSay visible (now (img .entry)) (nodesOf (now (img .entry)))) ⌝ }
 {
     if image::nodes(img) <= 256 {
         let mut lo = [0u64; 256];
         let mut hi = [0u64; 256];
-        return from_last(img, &mut lo, &mut hi);
+        return from_root(img, &mut lo, &mut hi, low, high);
     }
     let mut lo = [0u64; 2048];
     let mut hi = [0u64; 2048];
-    from_last(img, &mut lo, &mut hi)
+    from_root(img, &mut lo, &mut hi, low, high)
 }

@@ -28,11 +28,11 @@ verdict-numbers-decide (Refused k p) (Refused j q) e =
     rw (a, b)
 
 -- a verdict without numbers is acceptance
-pub accepts-only : (words : ℕ) (img : List ℕ) → Accepts words img → check words img ≡ Accepted
+pub accepts-only : (words : ℕ) (img : List ℕ) → Accepts words img → check [] words img ≡ Accepted
 unfolding verdictNumbers
-accepts-only words img e = verdict-numbers-decide (check words img) Accepted e
+accepts-only words img e = verdict-numbers-decide (check [] words img) Accepted e
 
-pub accepts-if : (words : ℕ) (img : List ℕ) → check words img ≡ Accepted → Accepts words img
+pub accepts-if : (words : ℕ) (img : List ℕ) → check [] words img ≡ Accepted → Accepts words img
 unfolding verdictNumbers
 accepts-if words img e = ap verdictNumbers e
 
@@ -60,19 +60,19 @@ snoc-apart (x ∷ xs) (y ∷ ys) a b e =
     (rw (h, r .0), r .1)
 
 module _ (words : ℕ) (img choices : List ℕ) where
-  by-check : (v : Verdict) → check words img ≡ v → answerOf words img choices ≡ answered v (runScript img choices)
+  by-check : (v : Verdict) → check [] words img ≡ v → answerOf words img choices ≡ answered v (runScript img choices)
   unfolding answerOf
   by-check v e = rw e
 
-  pub refused-answer : (k p : ℕ) → check words img ≡ Refused k p → answerNumbers (answerOf words img choices) ≡ refusedWith (k ∷ p ∷ [])
+  pub refused-answer : (k p : ℕ) → check [] words img ≡ Refused k p → answerNumbers (answerOf words img choices) ≡ refusedWith (k ∷ p ∷ [])
   unfolding answered answerNumbers
   refused-answer k p e = ap answerNumbers (by-check (Refused k p) e)
 
-  pub answer-refused : (k p : ℕ) → answerNumbers (answerOf words img choices) ≡ refusedWith (k ∷ p ∷ []) → check words img ≡ Refused k p
+  pub answer-refused : (k p : ℕ) → answerNumbers (answerOf words img choices) ≡ refusedWith (k ∷ p ∷ []) → check [] words img ≡ Refused k p
   unfolding answered answerNumbers
-  answer-refused k p f = go (check words img) refl
+  answer-refused k p f = go (check [] words img) refl
     where
-      go : (v : Verdict) → check words img ≡ v → check words img ≡ Refused k p
+      go : (v : Verdict) → check [] words img ≡ v → check [] words img ≡ Refused k p
       go Accepted e =
           let x : answerNumbers (answered Accepted (runScript img choices)) ≡ refusedWith (k ∷ p ∷ []) = ap answerNumbers (sym (by-check Accepted e)) ∙ f in
           let z : _≡_ {A = ℕ} 0 1 = cc in
@@ -87,7 +87,7 @@ module _ (words : ℕ) (img choices : List ℕ) where
   abbrev Ends : ℕ → List ℕ → ℕ → Type 0
   Ends e values n = answerNumbers (answerOf words img choices) ≡ endedWith (e ∷ (values ++ (n ∷ [])))
 
-  module _ (accepted : check words img ≡ Accepted) where
+  module _ (accepted : check [] words img ≡ Accepted) where
     is-ending : answerOf words img choices ≡ Ending (runScript img choices .end) (runScript img choices .steps)
     unfolding answered
     is-ending = by-check Accepted accepted

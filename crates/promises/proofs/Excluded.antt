@@ -22,9 +22,9 @@ use Rattle.rules.proofs.Cases.{bytes34}
 abbrev zeros : List ℕ
 zeros = replicate size 0
 
-accepted : check (length zeros) bytes34 ≡ Accepted
+accepted : check [] (length zeros) bytes34 ≡ Accepted
 unfolding opens
-accepted = ap (λ n. check n bytes34) (length-replicate {A = ℕ} size 0)
+accepted = ap (λ n. check [] n bytes34) (length-replicate {A = ℕ} size 0)
 
 -- the words after these choices
 abbrev after : List ℕ → List ℕ
@@ -48,7 +48,6 @@ unfolding opens layout flatAll
 parts-after-two = ap (λ ws. getD ws 2 9) (laid-out (0 ∷ 0 ∷ []))
 
 no-frames-lent : getD zeros 0 9 ≡ 0
-unfolding size
 no-frames-lent = refl
 
 answer-of : (cs : List ℕ) → answerOf (length zeros) bytes34 cs ≡ answered Accepted (runScript bytes34 cs)
@@ -64,20 +63,20 @@ module _ (says : List ℕ → List ℕ → List ℕ → Answer) (leaves : List �
     (answers : (img choices lent : List ℕ) → says img choices lent ≡ answerOf (length lent) img choices)
     (writes : (img choices lent : List ℕ) → leaves img choices lent ≡ wordsAfter img choices lent) where
   pub not-always-done : (steps : List ℕ → List ℕ → ℕ)
-      → ((img choices lent : List ℕ) → check (length lent) img ≡ Accepted → says img choices lent ≡ Ending Done (steps img choices)) → ⊥
+      → ((img choices lent : List ℕ) → check [] (length lent) img ≡ Accepted → says img choices lent ≡ Ending Done (steps img choices)) → ⊥
   not-always-done steps all =
       let e : Ending UsedUp 0 ≡ Ending Done (steps bytes34 []) = sym not-done-without-choices ∙ sym (answers bytes34 [] zeros) ∙ all bytes34 [] zeros accepted in
       let z : _≡_ {A = ℕ} 0 1 = cc in
       absurd (omega arith)
 
-  pub not-writing-nothing : ((img choices lent : List ℕ) → check (length lent) img ≡ Accepted → leaves img choices lent ≡ lent) → ⊥
+  pub not-writing-nothing : ((img choices lent : List ℕ) → check [] (length lent) img ≡ Accepted → leaves img choices lent ≡ lent) → ⊥
   not-writing-nothing all =
       let e : after (0 ∷ []) ≡ zeros = sym (writes bytes34 (0 ∷ []) zeros) ∙ all bytes34 (0 ∷ []) zeros accepted in
       let z : _≡_ {A = ℕ} 1 0 = sym frames-after-one ∙ ap (λ ws. getD ws 0 9) e ∙ no-frames-lent in
       absurd (omega arith)
 
   -- the first choice alone leaves what all of them leave
-  pub not-all-at-the-first-step : ((img lent later : List ℕ) (first : ℕ) → check (length lent) img ≡ Accepted → leaves img (first ∷ []) lent ≡ leaves img (first ∷ later) lent)
+  pub not-all-at-the-first-step : ((img lent later : List ℕ) (first : ℕ) → check [] (length lent) img ≡ Accepted → leaves img (first ∷ []) lent ≡ leaves img (first ∷ later) lent)
       → ⊥
   not-all-at-the-first-step all =
       let e : after (0 ∷ []) ≡ after (0 ∷ 0 ∷ []) =

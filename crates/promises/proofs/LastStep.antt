@@ -10,12 +10,11 @@ use native.Mathlib.Omega.{arith}
 use lib.ListN.{length, take}
 use lib.Dec.{leb}
 use borrow.Author.Tests.{le-leb, lt-leb, leb-true, leb-false}
-use Rattle.rules.specs.declared.Chain.the-variants.{Empty}
 use Rattle.rules.specs.declared.End.the-variants.{UsedUp, Stopped}
 use Rattle.rules.specs.declared.Stop.the-variants.{Full}
-use Rattle.rules.specs.Control.{Control, parts, fits, opened, Outcome, goesTo, stops}
-use Rattle.rules.specs.Step.{Machine, step}
-use Rattle.rules.specs.Run.{Ran, ran, onward, runFrom, run, begins, machine, start, runScript}
+use Rattle.rules.specs.Control.{Control, parts, fits}
+use Rattle.rules.specs.Step.{Machine}
+use Rattle.rules.specs.Run.{Ran, ran, runFrom, run, begins, machine, start, runScript, bare, Start}
 use Rattle.rules.specs.Script.{rootOf}
 use Rattle.rules.specs.declared.Verdict.{Verdict}
 use Rattle.rules.specs.declared.Verdict.the-variants.{Accepted, Refused}
@@ -23,45 +22,44 @@ use Rattle.rules.specs.Refusals.{check}
 use Rattle.rules.specs.State.{Store, empty, mostParts}
 use Rattle.words.specs.Lent.{wordsAfterRun, wordsAfter}
 use Rattle.safety.proofs.Ends.{run-leaves}
-use Rattle.rules.proofs.Runs.{run-done, steps-at-least}
 use Rattle.safety.specs.Reaches.{Left}
 use Rattle.safety.proofs.SoFar.{left-exactly}
 
 -- the same state, and as many steps
-pub record Leaves {S : Type 0} (a b : Ran S) : Type 0 where
+pub record SameState {S : Type 0} (a b : Ran S) : Type 0 where
   pub store : a .store ≡ b .store
   pub control : a .control ≡ b .control
   pub steps : a .steps ≡ b .steps
 
-same : {S : Type 0} (a : Ran S) → Leaves a a
+same : {S : Type 0} (a : Ran S) → SameState a a
 same a = record { store = refl; control = refl; steps = refl }
 
 module _ {S E : Type 0} (m : Machine S E) where
   from : (cs : List ℕ) (k : ℕ) (s : S) (o : Option Control) (n : ℕ) → runFrom m cs k s o .steps ≡ k + n
-      → Leaves (runFrom m (take n cs) k s o) (runFrom m cs k s o)
+      → SameState (runFrom m (take n cs) k s o) (runFrom m cs k s o)
   from cs k s o n e =
       let y = left-exactly m cs k s o (runFrom m cs k s o) .0 (run-leaves m cs k s o) in
       let x = y .2 .stood in
       let is : y .0 ≡ n = omega (arith, e, y .1) in
-      subst (λ j. Leaves (runFrom m (take j cs) k s o) (runFrom m cs k s o)) is
+      subst (λ j. SameState (runFrom m (take j cs) k s o) (runFrom m cs k s o)) is
       (record { store = x .store; control = x .control; steps = x .steps ∙ sym (y .1) })
 
   -- from the control that the root is opened to
   begun : (s : S) (o : Control) (b : Bool) (cs : List ℕ) (stop : Ran S)
-      → Leaves (cond b (runFrom m (take (cond b (runFrom m cs 0 s (some o)) stop .steps) cs) 0 s (some o)) stop)
+      → SameState (cond b (runFrom m (take (cond b (runFrom m cs 0 s (some o)) stop .steps) cs) 0 s (some o)) stop)
       (cond b (runFrom m cs 0 s (some o)) stop)
   begun s o true cs stop = from cs 0 s (some o) (runFrom m cs 0 s (some o) .steps) (omega arith)
   begun s o false cs stop = same stop
 
-  whole : (s : S) (root : ℕ) (cs : List ℕ) → Leaves (run m s root (take (run m s root cs .steps) cs)) (run m s root cs)
-  unfolding run ran begins
-  whole s root cs = begun s (opened (m .cmdAt root) Empty) (fits (some (opened (m .cmdAt root) Empty))) cs _
+  whole : (st : Start S) (root : ℕ) (cs : List ℕ) → SameState (run m st root (take (run m st root cs .steps) cs)) (run m st root cs)
+  unfolding run ran
+  whole st root cs = begun (st .store) (begins m st root) (fits (some (begins m st root))) cs _
 
-pub last-step : (img choices : List ℕ) → Leaves (runScript img (take (runScript img choices .steps) choices)) (runScript img choices)
+pub last-step : (img choices : List ℕ) → SameState (runScript img (take (runScript img choices .steps) choices)) (runScript img choices)
 unfolding runScript
-last-step img choices = whole (machine img) empty (rootOf img) choices
+last-step img choices = whole (machine img) bare (rootOf img) choices
 
-words : (v : Verdict) (a b : Ran Store) (lent : List ℕ) → Leaves a b → wordsAfterRun v b lent ≡ wordsAfterRun v a lent
+words : (v : Verdict) (a b : Ran Store) (lent : List ℕ) → SameState a b → wordsAfterRun v b lent ≡ wordsAfterRun v a lent
 unfolding wordsAfterRun
 words Accepted a b lent l = rw (l .store, l .control)
 words (Refused k p) a b lent l = refl
@@ -69,7 +67,7 @@ words (Refused k p) a b lent l = refl
 pub last-words : (img choices lent : List ℕ) → wordsAfter img choices lent ≡ wordsAfter img (take (runScript img choices .steps) choices) lent
 unfolding wordsAfter
 last-words img choices lent =
-    words (check (length lent) img) (runScript img (take (runScript img choices .steps) choices)) (runScript img choices) lent (last-step img choices)
+    words (check [] (length lent) img) (runScript img (take (runScript img choices .steps) choices)) (runScript img choices) lent (last-step img choices)
 
 -- a count is within a limit, or past it
 pub fits-or-not : (count limit : ℕ) → (count ≤ limit) ⊎ (limit < count)

@@ -6,7 +6,7 @@ use Prim.Native.Nat.{ℕ, _<_, _≤_}
 use mathlib.Core.Path.{_≡_, sym, ap, subst, subst₂, _∙_}
 use mathlib.Core.Bool.{true}
 use mathlib.Core.Logic.{_↔_, _⊎_}
-use mathlib.Core.Option.{Option, none, some}
+use mathlib.Core.Option.{Option, some}
 use mathlib.Core.List.{List, [], _∷_, _++_}
 use lib.ListN.{length, getElem?, take, drop, replicate}
 use lib.Dec.{T}
@@ -21,7 +21,7 @@ use Rattle.rules.specs.declared.Verdict.{Verdict}
 use Rattle.rules.specs.declared.Verdict.the-variants.{Accepted, Refused}
 use Rattle.rules.specs.Syntax.{Cmd}
 use Rattle.rules.specs.Image.{nodesOf, nodeAt}
-use Rattle.rules.specs.State.{size, Store, empty, Newest, mostParts}
+use Rattle.rules.specs.State.{size, Store, empty, Newest, mostParts, AnObject, frameAt, objectAt, HasObject}
 use Rattle.rules.specs.Script.{scriptOf, rootOf, formal}
 use Rattle.rules.specs.Refusals.{Reason, ruleOf, First, check}
 use Rattle.rules.specs.Published.{Bytes, Published}
@@ -29,11 +29,11 @@ use Rattle.rules.specs.Control.{Control, parts, move, movable, atomIn, Outcome,
 use Rattle.rules.specs.Eval.{Wrong, faultNo}
 use Rattle.rules.specs.Paper.{Command, Makes}
 use Rattle.rules.specs.Step.{step}
-use Rattle.rules.specs.Run.{Ran, ran, runFrom, machine, start, runScript, answerOf}
+use Rattle.rules.specs.Run.{Ran, ran, runFrom, machine, start, runScript, answerOf, bare}
 use Rattle.rules.specs.Numbers.{kindNo, stopNo, stopValues, endNo, endValues, verdictNumbers, answerNumbers}
 use Rattle.words.specs.Layout.{layout}
 use Rattle.words.specs.Lent.{wordsAfterRun, wordsAfter, rowsAfterRun, rowsAfter}
-use Rattle.words.specs.Lies as Lies
+use Rattle.words.specs.LaidOut as LaidOut
 use Rattle.words.specs.Contracts.{Checks, Runs, Traces}
 use Rattle.safety.specs.Inside.{Waits}
 use Rattle.safety.specs.Needs.{needs}
@@ -119,11 +119,11 @@ one-room-a-number = Numbers.one-room-a-number
 
 -- "A refused script gives the first reason in the fixed order and the place": check
 pub demand-1-check-first-reason : (img : List ℕ) (words : ℕ) (v : Verdict) → Checks img words v
-    → (k p : ℕ) → (verdictNumbers v ≡ (k ∷ p ∷ [])) ↔ First words img k p
+    → (k p : ℕ) → (verdictNumbers v ≡ (k ∷ p ∷ [])) ↔ First [] words img k p
 unfolding verdictNumbers
 demand-1-check-first-reason img words v c k p = (
-  λ e. refused-only words img k p (sym (c .verdict) ∙ verdict-numbers-decide v (Refused k p) e),
-  λ f. ap verdictNumbers (c .verdict ∙ refused-if words img k p f),
+  λ e. refused-only [] words img k p (sym (c .verdict) ∙ verdict-numbers-decide v (Refused k p) e),
+  λ f. ap verdictNumbers (c .verdict ∙ refused-if [] words img k p f),
 )
 
 module _ (img choices lent : List ℕ) (a : Answer) (after : List ℕ) (runs : Runs img choices a lent after) where
@@ -131,25 +131,25 @@ module _ (img choices lent : List ℕ) (a : Answer) (after : List ℕ) (runs : R
   pub demand-1-numbered : Bytes img → Numbered (nodesOf img) (answerNumbers a)
   demand-1-numbered b = rw (runs .answer) (no-answer-is-zero (length lent) img b choices)
 
-  pub demand-1-first-reason : (k p : ℕ) → Refuses a k p ↔ First (length lent) img k p
+  pub demand-1-first-reason : (k p : ℕ) → Refuses a k p ↔ First [] (length lent) img k p
   demand-1-first-reason k p = rw (runs .answer) (
-    λ e. refused-only (length lent) img k p (answer-refused (length lent) img choices k p e),
-    λ f. refused-answer (length lent) img choices k p (refused-if (length lent) img k p f),
+    λ e. refused-only [] (length lent) img k p (answer-refused (length lent) img choices k p e),
+    λ f. refused-answer (length lent) img choices k p (refused-if [] (length lent) img k p f),
   )
 
   -- "and the lent workspace stays untouched"
-  pub demand-1-untouched : (k p : ℕ) → First (length lent) img k p → after ≡ lent
+  pub demand-1-untouched : (k p : ℕ) → First [] (length lent) img k p → after ≡ lent
   unfolding wordsAfter wordsAfterRun
-  demand-1-untouched k p f = runs .words ∙ rw (refused-if (length lent) img k p f)
+  demand-1-untouched k p f = runs .words ∙ rw (refused-if [] (length lent) img k p f)
 
 -- .. and so do the lent rows
 pub demand-1-rows-untouched : (img choices lent rows : List ℕ) (a : Answer) (after rows′ : List ℕ) → Traces img choices a lent after rows rows′
-    → (k p : ℕ) → First (length lent) img k p → rows′ ≡ rows
+    → (k p : ℕ) → First [] (length lent) img k p → rows′ ≡ rows
 unfolding rowsAfter rowsAfterRun
-demand-1-rows-untouched img choices lent rows a after rows′ t k p f = t .rows ∙ rw (refused-if (length lent) img k p f)
+demand-1-rows-untouched img choices lent rows a after rows′ t k p f = t .rows ∙ rw (refused-if [] (length lent) img k p f)
 
 module _ (img choices lent : List ℕ) (a : Answer) (after : List ℕ) (runs : Runs img choices a lent after) (accepts : Accepts (length lent) img) where
-  accepted : check (length lent) img ≡ Accepted
+  accepted : check [] (length lent) img ≡ Accepted
   accepted = accepts-only (length lent) img accepts
 
   -- the workspace after the run over other choices
@@ -179,7 +179,7 @@ module _ (img choices lent : List ℕ) (a : Answer) (after : List ℕ) (runs : R
 
   -- or the start has no room: a root that has more than 255 parts as opened: room 3 with 0 steps, and the workspace is zero throughout its size
   pub demand-1-too-large : StartTooLarge img → Ends a 3 (3 ∷ []) 0 × (after ≡ replicate size 0 ++ drop size lent)
-  unfolding ran size endNo endValues stopNo stopValues
+  unfolding ran endNo endValues stopNo stopValues
   demand-1-too-large h =
       let e = too-large img choices h in (
         ap answerNumbers (runs .answer) ∙ subst (λ (r : Ran Store). Ends (answerOf (length lent) img choices) (endNo (r .end)) (endValues (r .end)) (r .steps)) e (accepted-answer (length lent) img choices accepted),
@@ -195,10 +195,10 @@ start-fits-or-not img = fits-or-not (parts (start img)) mostParts
 -- ======== Demand 2
 
 -- "With workspace enough, a script is accepted exactly when the published layout and MiniOO scoping rules accept it."
-pub demand-2-accepted : (img : List ℕ) → Bytes img → (words : ℕ) → size ≤ words → Accepts words img ↔ Published img
+pub demand-2-accepted : (img : List ℕ) → Bytes img → (words : ℕ) → size ≤ words → Accepts words img ↔ Published [] img
 demand-2-accepted img b words h = (
-  λ e. accepted-published words img b (accepts-only words img e),
-  λ p. accepts-if words img (published-accepted words img h p),
+  λ e. accepted-published [] words img b (accepts-only words img e),
+  λ p. accepts-if words img (published-accepted [] words img h p),
 )
 
 -- "An accepted script then runs step for step as the published MiniOO rules with static scoping say, with our stated changes": at
@@ -241,18 +241,18 @@ demand-2-stays img first later n = script-finished img first later (λ e. n (ap 
 -- ======== Demand 3: "Take an accepted script and any list of choices, and look at any moment from the start to the stop."
 
 module _ (img : List ℕ) (are-bytes : Bytes img) (words : ℕ) (accepts : Accepts words img) (choices : List ℕ) where
-  is-accepted : check words img ≡ Accepted
+  is-accepted : check [] words img ≡ Accepted
   is-accepted = accepts-only words img accepts
 
-  lies : (cs : List ℕ) (s : Store) (o : Option Control) → At img cs s o → Lies.Good s o
-  lies cs s o x =
+  laid-out : (cs : List ℕ) (s : Store) (o : Option Control) → At img cs s o → LaidOut.StateFits s o
+  laid-out cs s o x =
       let safe = Demand3.always-safe words img are-bytes is-accepted cs s o x in
-      store-good img (good words img is-accepted) s (safe .store) o (safe .control)
+      store-good img (good [] words img is-accepted) s (safe .store) o (safe .control)
 
   -- what a run leaves is a moment of it
   pub demand-3-left : StartFits img → At img choices (runScript img choices .store) (runScript img choices .control)
   unfolding runScript
-  demand-3-left h = run-moment (scriptOf img) (rootOf img) choices h
+  demand-3-left h = run-moment (scriptOf img) bare (rootOf img) choices h
 
   -- at every moment, when the choices so far are given, the words are the layout of just its store and control, after a step for each
   pub demand-3-words : (s : Store) (o : Option Control) (x : At img choices s o)
@@ -260,13 +260,13 @@ module _ (img : List ℕ) (are-bytes : Bytes img) (words : ℕ) (accepts : Accep
       → (after ≡ layout s o ++ drop size lent) × (runScript img (x .used) .steps ≡ length (x .used))
   unfolding wordsAfter wordsAfterRun runScript
   demand-3-words s o x lent l a after runs =
-      let r = moment-run (machine img) empty (rootOf img) choices s o x in
+      let r = moment-run (machine img) bare (rootOf img) choices s o x in
       (runs .words ∙ rw (l, is-accepted, r .store, r .control), r .steps)
 
   -- .. and they decide the cells, the objects and the control: two moments with the same words are of one state
   pub demand-3-words-decide : (others : List ℕ) (s s′ : Store) (o o′ : Option Control) → At img choices s o → At img others s′ o′
       → layout s o ≡ layout s′ o′ → (s ≡ s′) × (o ≡ o′)
-  demand-3-words-decide others s s′ o o′ x y e = decides s s′ o o′ (lies choices s o x) (lies others s′ o′ y) e
+  demand-3-words-decide others s s′ o o′ x y e = decides s s′ o o′ (laid-out choices s o x) (laid-out others s′ o′ y) e
 
   module _ (s : Store) (t : Control) (at : At img choices s (some t)) where
     -- "Every name the next step could need is found, on its own command's chain, in a cell that exists."
@@ -288,7 +288,7 @@ module _ (img : List ℕ) (are-bytes : Bytes img) (words : ℕ) (accepts : Accep
 
   -- the frame found is the newest of the chain that bears the name; it is there, and bears it
   pub found-frame-is-newest : (s : Store) (ch : Chain) (x : ℕ) (b : Borne (s .frames) ch x)
-      → Newest (s .frames) x ch (b .at) × ((f : Frame) × (getElem? (s .frames) (b .at) ≡ some f) × (f .name ≡ x))
+      → Newest (s .frames) x ch (b .at) × ((f : Frame) × (frameAt s (b .at) ≡ some f) × (f .name ≡ x))
   found-frame-is-newest s ch x b = (
     Demand3.found-frame-is-newest words img are-bytes is-accepted choices s ch x b,
     Demand3.found-frame-is-there words img are-bytes is-accepted choices s ch x b,
@@ -301,17 +301,17 @@ module _ (img : List ℕ) (are-bytes : Bytes img) (words : ℕ) (accepts : Accep
     body-name-is-found = Demand3.body-name-is-found words img are-bytes is-accepted choices s o at
 
     -- "Every object and procedure held anywhere exists", and what is held is a value; anywhere is each cell and each field
-    pub held-object-exists : (k : ℕ) → HeldIn s (Object k) → k < length (s .objects)
+    pub held-object-exists : (k : ℕ) → HeldIn s (Object k) → HasObject s k
     held-object-exists = Demand3.held-object-exists words img are-bytes is-accepted choices s o at
 
     -- a procedure: a proc node of the script, whose chain's frame is there, with its outer frames; and its body finds its names
     pub held-procedure-is-a-proc : (n : ℕ) (ch : Chain) → HeldIn s (Proc n ch) → (n < nodesOf img) × (nodeAt img n .tag ≡ 7)
     held-procedure-is-a-proc n = SafeUsed.held-procedure-is-a-proc words img are-bytes is-accepted choices s o at n
 
-    pub held-procedure-has-its-frame : (n k : ℕ) → HeldIn s (Proc n (From k)) → (f : Frame) × (getElem? (s .frames) k ≡ some f)
+    pub held-procedure-has-its-frame : (n k : ℕ) → HeldIn s (Proc n (From k)) → (f : Frame) × (frameAt s k ≡ some f)
     held-procedure-has-its-frame n = SafeUsed.held-procedure-has-its-frame words img are-bytes is-accepted choices s o at n
 
-    pub outer-frame-exists : (k j : ℕ) (f : Frame) → getElem? (s .frames) k ≡ some f → f .outer ≡ From j → (g : Frame) × (getElem? (s .frames) j ≡ some g)
+    pub outer-frame-exists : (k j : ℕ) (f : Frame) → frameAt s k ≡ some f → f .outer ≡ From j → (g : Frame) × (frameAt s j ≡ some g)
     outer-frame-exists = Demand3.outer-frame-exists words img are-bytes is-accepted choices s o at
 
     -- .. of one of the kinds 1 to 6: zero is the kind of nothing
@@ -321,10 +321,10 @@ module _ (img : List ℕ) (are-bytes : Bytes img) (words : ℕ) (accepts : Accep
     pub nothing-is-never-held : HeldIn s Nothing → ⊥
     nothing-is-never-held = Demand3.nothing-is-never-held words img are-bytes is-accepted choices s o at
 
-  pub cell-is-held : (s : Store) (k : ℕ) (f : Frame) → getElem? (s .frames) k ≡ some f → HeldIn s (f .cell)
+  pub cell-is-held : (s : Store) (k : ℕ) (f : Frame) → frameAt s k ≡ some f → HeldIn s (f .cell)
   cell-is-held = Demand3.cell-is-held words img are-bytes is-accepted choices
 
-  pub field-is-held : (s : Store) (o i : ℕ) (vs : List Value) (v : Value) → getElem? (s .objects) o ≡ some vs → getElem? vs i ≡ some v → HeldIn s v
+  pub field-is-held : (s : Store) (o i : ℕ) (x : AnObject) (v : Value) → objectAt s o ≡ some x → getElem? (x .values) i ≡ some v → HeldIn s v
   field-is-held = Demand3.field-is-held words img are-bytes is-accepted choices
 
   -- zero is no tag either: no node of the script has it
@@ -353,7 +353,7 @@ module _ (img : List ℕ) (are-bytes : Bytes img) (words : ℕ) (accepts : Accep
   -- "and for room exactly when a fitting choice is there and its step has no fault but needs an entry past a limit, or the script's
   -- start already does."
   pub demand-3-room : (lent : List ℕ) → length lent ≡ words → (a : Answer) (after : List ℕ) → Runs img choices a lent after
-      → (k : ℕ) → ((n : ℕ) × Ends a 3 (k ∷ []) n) ↔ ForRoom (scriptOf img) (rootOf img) choices k
+      → (k : ℕ) → ((n : ℕ) × Ends a 3 (k ∷ []) n) ↔ ForRoom (scriptOf img) bare (rootOf img) choices k
   demand-3-room lent l a after runs k =
       let same = ap answerNumbers (runs .answer ∙ ap (λ (m : ℕ). answerOf m img choices) l) in (
         λ x. Demand3.room-only-when-needed words img are-bytes is-accepted choices k (answer-room words img choices is-accepted k (x .0) (sym same ∙ x .1)),

@@ -1,17 +1,17 @@
 -- The words in which the promises are said: an answer by document 01's numbers (`Numbers` of the rules), acceptance, the start
 -- of a run, and its moments. Assumes nothing.
-use Prim.Native.Nat.{ℕ, _<_, _≤_}
+use Prim.Native.Nat.{ℕ}
 use mathlib.Core.Path.{_≡_}
 use mathlib.Core.Option.{Option}
 use mathlib.Core.List.{List, [], _∷_, _++_}
 use Rattle.rules.specs.declared.Answer.{Answer}
-use Rattle.rules.specs.State.{Store, empty, mostParts}
+use Rattle.rules.specs.State.{Store}
 use Rattle.rules.specs.Script.{rootOf}
 use Rattle.rules.specs.Refusals.{check}
-use Rattle.rules.specs.Control.{Control, parts}
-use Rattle.rules.specs.Run.{machine, start}
+use Rattle.rules.specs.Control.{Control}
+use Rattle.rules.specs.Run.{machine, bare}
 use Rattle.rules.specs.Numbers.{verdictNumbers, refusedWith, endedWith, answerNumbers}
-use Rattle.safety.specs.Reaches.{Moment}
+use Rattle.safety.specs.Reaches as Reaches
 
 -- the answer is the refusal k at place p
 abbrev pub Refuses : Answer → ℕ → ℕ → Type 0
@@ -23,15 +23,15 @@ Ends a e values n = answerNumbers a ≡ endedWith (e ∷ (values ++ (n ∷ [])))
 
 -- with so many words for a run, `check` gives no refusal
 abbrev pub Accepts : ℕ → List ℕ → Type 0
-Accepts words img = verdictNumbers (check words img) ≡ []
+Accepts words img = verdictNumbers (check [] words img) ≡ []
 
 -- the start needs no part past the limit; or it does
 abbrev pub StartFits : List ℕ → Type 0
-StartFits img = parts (start img) ≤ mostParts
+StartFits img = Reaches.StartFits (machine img) bare (rootOf img)
 
 abbrev pub StartTooLarge : List ℕ → Type 0
-StartTooLarge img = mostParts < parts (start img)
+StartTooLarge img = Reaches.StartTooLarge (machine img) bare (rootOf img)
 
 -- a moment of the run, from the start to the stop: this store, and this control
 abbrev pub At : List ℕ → List ℕ → Store → Option Control → Type 0
-At img choices s o = Moment (machine img) empty (rootOf img) choices s o
+At img choices s o = Reaches.Moment (machine img) bare (rootOf img) choices s o

@@ -9,6 +9,7 @@ use Rattle.rules.specs.declared.Value.{Value}
 use Rattle.rules.specs.declared.Frame.{Frame}
 use Rattle.words.specs.Lent.{StepRow}
 use Rattle.report.specs.Listing.{rowLine, rowLines, cellLine, cellLines, fieldLine, fieldLines, objectLines}
+use Rattle.rules.specs.State.{AnObject}
 
 pub flatten-append : (xs ys : List (List ℕ)) → flatten (xs ++ ys) ≡ flatten xs ++ flatten ys
 unfolding flatten
@@ -44,10 +45,10 @@ module _ (img : List ℕ) where
       rw (add-suc i (length vs), ← suc-add i (length vs))
       (under (fieldLine img o i x) _ (flatten (fieldLines img o (suc i) vs)) (fieldLine img o (suc i + length vs) v) (fields-more vs o (suc i) v))
 
-  pub objects-more : (os : List (List Value)) (o : ℕ) (vs : List Value)
-      → flatten (objectLines img o (os ++ (vs ∷ []))) ≡ flatten (objectLines img o os) ++ flatten (fieldLines img (o + length os) 0 vs)
+  pub objects-more : (os : List AnObject) (o : ℕ) (y : AnObject)
+      → flatten (objectLines img o (os ++ (y ∷ []))) ≡ flatten (objectLines img o os) ++ flatten (fieldLines img (o + length os) 0 (y .values))
   unfolding objectLines flatten
-  objects-more [] o vs = rw (add-zero o, append-nil)
-  objects-more (x ∷ os) o vs =
-      rw (add-suc o (length os), ← suc-add o (length os), flatten-append (fieldLines img o 0 x) (objectLines img (suc o) (os ++ (vs ∷ []))), flatten-append (fieldLines img o 0 x) (objectLines img (suc o) os))
-      (under (flatten (fieldLines img o 0 x)) _ (flatten (objectLines img (suc o) os)) (flatten (fieldLines img (suc o + length os) 0 vs)) (objects-more os (suc o) vs))
+  objects-more [] o y = rw (add-zero o, append-nil)
+  objects-more (x ∷ os) o y =
+      rw (add-suc o (length os), ← suc-add o (length os), flatten-append (fieldLines img o 0 (x .values)) (objectLines img (suc o) (os ++ (y ∷ []))), flatten-append (fieldLines img o 0 (x .values)) (objectLines img (suc o) os))
+      (under (flatten (fieldLines img o 0 (x .values))) _ (flatten (objectLines img (suc o) os)) (flatten (fieldLines img (suc o + length os) 0 (y .values))) (objects-more os (suc o) y))

@@ -21,7 +21,7 @@ use Rattle.rules.specs.declared.End.the-variants.{Done, UsedUp, Stopped}
 use Rattle.rules.specs.declared.Verdict.{Verdict}
 use Rattle.rules.specs.declared.Verdict.the-variants.{Accepted, Refused}
 use Rattle.rules.specs.Image.{codeAt}
-use Rattle.rules.specs.State.{size, Store}
+use Rattle.rules.specs.State.{size, Store, AnObject}
 use Rattle.rules.specs.Refusals.{check}
 use Rattle.rules.specs.Run.{Ran, runScript}
 use Rattle.rules.specs.Numbers.{endNo}
@@ -99,9 +99,9 @@ module _ (img : List ℕ) where
   fieldLines o i [] = []
   fieldLines o i (v ∷ vs) = fieldLine o i v ∷ fieldLines o (suc i) vs
 
-  unfoldable pub objectLines : ℕ → List (List Value) → List (List ℕ)
+  unfoldable pub objectLines : ℕ → List AnObject → List (List ℕ)
   objectLines o [] = []
-  objectLines o (vs ∷ os) = fieldLines o 0 vs ++ objectLines (suc o) os
+  objectLines o (x ∷ os) = fieldLines o 0 (x .values) ++ objectLines (suc o) os
 
   unfoldable pub runLines : List StepRow → Ran Store → List (List ℕ)
   runLines rs r =
@@ -125,7 +125,7 @@ linesBy (Refused k p) ls = refusedLine k p ∷ []
 
 -- the lines for a script and choices, with a workspace of the right size
 unfoldable pub listingLines : List ℕ → List ℕ → List (List ℕ)
-listingLines img cs = linesBy (check size img) (runLines img (rowsOf img cs) (runScript img cs))
+listingLines img cs = linesBy (check [] size img) (runLines img (rowsOf img cs) (runScript img cs))
 
 unfoldable pub listing : List ℕ → List ℕ → List ℕ
 listing img cs = flatten (listingLines img cs)

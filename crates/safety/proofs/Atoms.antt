@@ -43,7 +43,7 @@ module _ {S E : Type 0} (m : Machine S E) where
       picked
       (getElem? (movable u) i)
       refl
-      (ap (λ l. follow m s t i (chosen m s t i (getElem? l i))) (sym (moves-inside C u q)) ∙ e)
+      (rw (moves-inside C u q) at e)
     where
       t : Control
       t = plug C (entered u)
@@ -69,7 +69,7 @@ module _ {S E : Type 0} (m : Machine S E) where
           let v : outer y ≡ o = cc in
           record {
             rest = inner y;
-            alone = rw (p, chosen, a, judged, k) (ap (λ (j : S). goesTo j (inner y)) z);
+            alone = rw (p, chosen, a, judged, k, z);
             whole = sym v ∙ w;
           }
       fitted n ch x y false p a f h = absurd (stops-not-goes (Full 3) s′ o h)
@@ -106,7 +106,7 @@ module _ {S E : Type 0} (m : Machine S E) where
         record {
           first = i ∷ x .first;
           later = x .later;
-          is = ap (λ l. i ∷ l) (x .is);
+          is = rw (x .is);
           store = x .store;
           alone = goes e (x .alone);
           control = x .control;
@@ -136,7 +136,7 @@ module _ {S E : Type 0} (m : Machine S E) where
           )
       atom-run s′ o′ _ _ _ (goes {i = i} {cs = cs} {s = s} {t = t} {s₁ = s₁} {o = o} e r) u x =
           let w : t ≡ plug C (entered u) = Option·some-injective t (plug C (entered u)) x in
-          let y : Inner C u s i s₁ o = atom-step C u s i s₁ o q (subst (λ z. step m s z i ≡ goesTo s₁ o) w e) in
+          let y : Inner C u s i s₁ o = atom-step C u s i s₁ o q (rw w at e) in
           go (y .rest) (y .alone) (y .whole) (λ v. atom-run s′ o′ cs s₁ o r v)
         where
           go : (p : Option Control)

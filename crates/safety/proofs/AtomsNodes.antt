@@ -1,7 +1,7 @@
 -- The atom sentence for this language: a step enters a block exactly when an atom moves, and from then on only that
 -- block moves until it is left. Assumes nothing.
 use Prim.Native.Nat.{ℕ}
-use mathlib.Core.Path.{_≡_, refl, sym, ap, _∙_}
+use mathlib.Core.Path.{_≡_, refl, sym, _∙_}
 use mathlib.Core.Bool.{Bool, true, false, cond}
 use mathlib.Core.Option.{Option, some}
 use lib.ListN.{getElem?}
@@ -18,7 +18,7 @@ use Rattle.rules.specs.Control.{Control, move, movable, goesTo}
 use Rattle.safety.specs.Safe.{Nested}
 use Rattle.rules.specs.Step.{does, step, Deed, deed, enter, calling, exec, miniOO}
 use Rattle.safety.specs.Atoms.{Sealed, AtomMoves}
-use Rattle.safety.proofs.Plans.{Does}
+use Rattle.safety.proofs.Plans.{RuleDoes}
 use Rattle.safety.proofs.ReachesStep.{Goes, goes-only}
 use Rattle.safety.proofs.Rooms.{made-only}
 use Rattle.safety.proofs.Atoms.{EntersBlock, only-that-block-moves}
@@ -54,7 +54,7 @@ AtomAround (atom k c) n = n ≡ cmdNo c
 abbrev EntersAs : Chain → Cmd → Next → Type 0
 EntersAs ch c Ended = Unit {0}
 EntersAs ch c (GoesOn n dh) = Unit {0}
-EntersAs ch c (Repeats b w dh) = Unit {0}
+EntersAs ch c (Repeats b dh w) = Unit {0}
 EntersAs ch c (Enters n dh) = AtomAround c n × (dh ≡ ch)
 
 abbrev DoesAs : Chain → Cmd → Deed → Type 0
@@ -78,7 +78,7 @@ module _ (sc : Script) where
   exec-enters s ch (assign n x e) =
       gives-bind (DoesAs ch (assign n x e)) _ _ (λ v. gives-bind (DoesAs ch (assign n x e)) _ _ (λ k. tt))
   exec-enters s ch (assignField n a b c) =
-      gives-bind P _ _ (λ v. gives-bind P _ _ (λ w. gives-bind P _ _ (λ o. gives-bind P _ _ (λ f. gives-bind P _ _ (λ u. gives-bind P _ _ (λ vs. gives-bind P _ _ (λ old. tt)))))))
+      gives-bind P _ _ (λ v. gives-bind P _ _ (λ w. gives-bind P _ _ (λ o. gives-bind P _ _ (λ f. gives-bind P _ _ (λ u. gives-bind P _ _ (λ obj. gives-bind P _ _ (λ old. tt)))))))
     where
       P : Deed → Type 0
       P = DoesAs ch (assignField n a b c)
@@ -86,7 +86,7 @@ module _ (sc : Script) where
   exec-enters s ch (seq n a b) = tt
   exec-enters s ch (while n t c) = gives-bind (DoesAs ch (while n t c)) _ _ (λ z. go z)
     where
-      go : (z : Bool) → EntersAs ch (while n t c) (cond z (Repeats (cmdNo c) n ch) Ended)
+      go : (z : Bool) → EntersAs ch (while n t c) (cond z (Repeats (cmdNo c) ch n) Ended)
       go true = tt
       go false = tt
   exec-enters s ch (if n t a b) = gives-bind (DoesAs ch (if n t a b)) _ _ (λ z. go z)
@@ -121,10 +121,10 @@ module _ (sc : Script) where
       → EntersBlock (miniOO sc) s t i n ch
       → AtomMoves sc t i n ch
   enters-only s t i n ch x =
-      let d : Does sc s t i (x .effect) (Enters n ch) = made-only sc s t i (x .effect) (Enters n ch) (x .plans) .does in
+      let d : RuleDoes sc s t i (x .effect) (Enters n ch) = made-only sc s t i (x .effect) (Enters n ch) (x .plans) .does in
       let g : Gives (DoesAs (d .chain) (sc .cmdAt (d .node))) (ok (deed (x .effect) (Enters n ch))) =
       rw (d .no-fault) at (exec-enters s (d .chain) (sc .cmdAt (d .node))) in
-      an-atom t i n ch (d .node) (sc .cmdAt (d .node)) (d .picks ∙ ap (λ c. some (move (d .node) c)) (sym (g .1))) refl (g .0)
+      an-atom t i n ch (d .node) (sc .cmdAt (d .node)) (cc (d .picks, g .1)) refl (g .0)
 
   same-exec : (s : Store) (n k : ℕ) (ch dh : Chain) (r : Res Deed)
       → k ≡ n
@@ -141,7 +141,7 @@ module _ (sc : Script) where
   unfolding exec
   enters-if s t i n ch a s₁ o₁ e =
       let g : Goes (miniOO sc) s t i s₁ o₁ = goes-only (miniOO sc) s t i s₁ o₁ e in
-      let d : Does sc s t i (g .effect) (g .leaves) = made-only sc s t i (g .effect) (g .leaves) (g .plans) .does in
+      let d : RuleDoes sc s t i (g .effect) (g .leaves) = made-only sc s t i (g .effect) (g .leaves) (g .plans) .does in
       let p : some (move (a .node) ch) ≡ some (move (d .node) (d .chain)) = sym (a .picks) ∙ d .picks in
       let k : d .node ≡ a .node = cc in
       let c : d .chain ≡ ch = cc in
@@ -149,7 +149,7 @@ module _ (sc : Script) where
       same-exec s (a .node) (d .node) ch (d .chain) (ok (deed (g .effect) (g .leaves))) k c (d .no-fault) in
       let z : ok (deed Keep (Enters (cmdNo (a .inner)) ch)) ≡ ok (deed (g .effect) (g .leaves)) = rw (a .is) at q in
       let y : g .leaves ≡ Enters (cmdNo (a .inner)) ch = cc in
-      record { effect = g .effect; plans = g .plans ∙ ap (λ l. does (g .effect) l) (y ∙ ap (λ j. Enters j ch) (sym (a .inside))) }
+      record { effect = g .effect; plans = cc (g .plans, y, a .inside) }
 
   -- From the step of an atom to the step that leaves it, only that block moves.
   pub only-that-atom-moves : (s : Store) (t : Control) (i n : ℕ) (ch : Chain)

@@ -46,8 +46,7 @@ module _ {S E : Type 0} (m : Machine S E) where
   after-end cs ds s s₁ s₂ o v a b =
       let x : Between m s₂ (some v) ds cs s o = reach-split m cs ds s₂ (some v) s o b in
       let e : x .control ≡ none = reach-same m cs s o (x .store) s₁ (x .control) none (x .first) a .1 in
-      let r : Reaches m s₂ (some v) ds (x .store) none =
-      subst (λ (p : Option Control). Reaches m s₂ (some v) ds (x .store) p) e (x .then) in
+      let r : Reaches m s₂ (some v) ds (x .store) none = rw e at (x .then) in
       Option·none-ne-some v (sym (ended-stays ds (x .store) s₂ (some v) r .2))
 
   -- a run ends once
@@ -58,13 +57,13 @@ module _ {S E : Type 0} (m : Machine S E) where
       → (s₁ ≡ s₂) × (xs ≡ ys)
   ends-once _ ds xs ys s _ s₂ _ stays b e =
       let x : (ds ≡ []) × (s₂ ≡ s) × (none ≡ none) = ended-stays ds s s₂ none b in
-      (sym (x .1), e ∙ ap (λ l. l ++ ys) (x .0))
+      (sym (x .1), rw (x .0) at e)
   ends-once _ _ xs ys _ s₁ s₂ _ (goes {i = i} {cs = cs} {s = s} {t = t} {s₁ = s₃} {o = o} e a) (goes {i = j} {cs = ds} {s₁ = s₄} {o = p} f b) h =
       let k : i ≡ j = cc in
       let q : goesTo s₄ p ≡ goesTo s₃ o = sym f ∙ ap (step m s t) (sym k) ∙ e in
       let x : s₄ ≡ s₃ = cc in
       let y : p ≡ o = cc in
-      ends-once cs ds xs ys s₃ s₁ s₂ o a (subst (λ z. Reaches m s₂ none ds z o) x (subst (λ z. Reaches m s₂ none ds s₄ z) y b)) (cc)
+      ends-once cs ds xs ys s₃ s₁ s₂ o a (rw (x, y) at b) (cc)
 
   -- ---- the block, by its run alone
 
@@ -98,13 +97,13 @@ module _ {S E : Type 0} (m : Machine S E) where
               control = y .control;
               is = y .is;
               stands = subst (λ w. InPlace (m .cmdAt) t i (some (entered w)) (some (y .control))) same-inner (y .stands);
-              others-wait = subst (λ w. movable (y .control) ≡ movable w) same-inner (y .others-wait);
+              others-wait = rw same-inner at (y .others-wait);
             }
         go (was-left y) =
             absurd
             (
             after-end (y .first) (y .later) s (y .store) s₁ (some u) v (y .alone)
-            (subst (λ l. Reaches m s₁ (some v) l s (some u)) (y .is) a)
+            (rw (y .is) at a)
             )
 
     -- so the store is the block's own, and control what the rules for control make of the atom around what is left of it, in its
@@ -146,7 +145,7 @@ module _ {S E : Type 0} (m : Machine S E) where
         → (k : ℕ)
         → getElem? (movable t′) k ≡ some w
         → ⊥
-    no-other-moves cs s₁ v a s′ t′ r w f k e = f k (ap (λ l. getElem? l k) (sym (open-moves cs s₁ v a s′ t′ r)) ∙ e)
+    no-other-moves cs s₁ v a s′ t′ r w f k e = f k (rw (open-moves cs s₁ v a s′ t′ r) at e)
 
     -- since the choices ds, with which the block alone hasn't ended
     moves-on : (cs : List ℕ) (s₁ : S) (p : Option Control) (s₀ : S) (q : Option Control)
@@ -166,7 +165,7 @@ module _ {S E : Type 0} (m : Machine S E) where
         let first : movable t₂ ≡ movable w = open-moves ds s₀ v b s₂ t₂ z ∙ ap movable (sym k) in
         let rest : moved r ≡ moved a =
         go q refl k (λ v₂ h ds₂ b₂ z₂. moves-on cs s₁ p s₃ q a v₂ h ds₂ b₂ s₄ o₄ z₂ s′ o′ r) in
-        ap (λ l. getElem? l j ∷ moved r) first ∙ ap (λ l. getElem? (movable w) j ∷ l) rest
+        rw (first, rest)
       where
         u : Control
         u = opened (m .cmdAt n) ch
@@ -178,7 +177,7 @@ module _ {S E : Type 0} (m : Machine S E) where
             → moved r ≡ moved a
         go none h k rec = ended-moves cs s₃ s₁ q p a h s₄ s′ o₄ o′ r
         go (some v₂) h k rec =
-            let step₂ : step m s₀ v j ≡ goesTo s₃ (some v₂) = ap (λ c. step m s₀ c j) (sym k) ∙ f ∙ ap (goesTo s₃) h in
+            let step₂ : step m s₀ v j ≡ goesTo s₃ (some v₂) = rw (k, h) at f in
             rec v₂ h (ds ++ (j ∷ []))
             (reach-on m s₃ (some v₂) (j ∷ []) s₀ (some v) ds s (some u) (goes step₂ stays) b)
             (reach-on m s₄ o₄ (j ∷ []) s₂ (some t₂) ds s o (goes g stays) z)
@@ -209,8 +208,4 @@ module _ {S E : Type 0} (m : Machine S E) where
         go (was-left y) =
             let same : (y .store ≡ s₁) × (y .later ≡ later) =
             ends-once (y .first) first (y .later) later s (y .store) s₁ (some u) (y .alone) a (sym (y .is)) in
-            subst (λ l. Reaches m s′ o′ l s₁ o₁) (same .1)
-            (
-            subst (λ z. Reaches m s′ o′ (y .later) z o₁) (same .0)
-            (subst (λ p. Reaches m s′ o′ (y .later) (y .store) p) (becomes-once (m .cmdAt) t i none (y .closed) nothing) (y .on))
-            )
+            rw (becomes-once (m .cmdAt) t i none (y .closed) nothing, same .0, same .1) at (y .on)

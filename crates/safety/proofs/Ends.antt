@@ -2,7 +2,7 @@
 -- such a moment decides the whole answer, with the count of steps (`done-if`, `used-up-if`, `stops-if`).
 -- Assumes nothing.
 use Prim.Native.Nat.{ℕ, suc, _+_}
-use mathlib.Core.Path.{_≡_, refl, sym, ap, subst, _∙_}
+use mathlib.Core.Path.{_≡_, refl, subst}
 use mathlib.Core.Option.{Option, none, some}
 use mathlib.Core.List.{List, [], _∷_, append-nil}
 use native.Mathlib.Omega.{arith}
@@ -27,7 +27,7 @@ module _ {S E : Type 0} (m : Machine S E) where
       record {
         before = i ∷ x .before;
         rest = x .rest;
-        is = ap (λ l. i ∷ l) (x .is);
+        is = rw (x .is);
         store = x .store;
         reached = goes p (x .reached);
       }
@@ -38,7 +38,7 @@ module _ {S E : Type 0} (m : Machine S E) where
         before = i ∷ x .before;
         choice = x .choice;
         rest = x .rest;
-        is = ap (λ l. i ∷ l) (x .is);
+        is = rw (x .is);
         store = x .store;
         control = x .control;
         reached = goes p (x .reached);
@@ -80,9 +80,7 @@ module _ {S E : Type 0} (m : Machine S E) where
       → runFrom m cs k s o ≡ ran Done (k + length (x .before)) (x .store) none
   unfolding runFrom
   done-if cs k s o x =
-      ap (λ l. runFrom m l k s o) (x .is)
-      ∙ run-reaches m (x .store) none (x .before) s o (x .reached) (x .rest) k
-      ∙ done (x .rest) (k + length (x .before))
+      rw (x .is, run-reaches m (x .store) none (x .before) s o (x .reached) (x .rest) k) (done (x .rest) (k + length (x .before)))
     where
       done : (l : List ℕ) (j : ℕ) → runFrom m l j (x .store) none ≡ ran Done j (x .store) none
       done [] j = refl
@@ -91,17 +89,14 @@ module _ {S E : Type 0} (m : Machine S E) where
   pub used-up-if : (cs : List ℕ) (k : ℕ) (s : S) (o : Option Control) (x : UsedUpAt m cs s o)
       → runFrom m cs k s o ≡ ran UsedUp (k + length cs) (x .store) (some (x .control))
   unfolding runFrom
-  used-up-if cs k s o x =
-      ap (λ l. runFrom m l k s o) (sym (append-nil cs))
-      ∙ run-reaches m (x .store) (some (x .control)) cs s o (x .reached) [] k
+  used-up-if cs k s o x = rw append-nil at (run-reaches m (x .store) (some (x .control)) cs s o (x .reached) [] k)
 
   pub stops-if : (cs : List ℕ) (k : ℕ) (s : S) (o : Option Control) (r : Stop) (x : StoppedAt m cs s o r)
       → runFrom m cs k s o ≡ ran (Stopped r) (k + length (x .before)) (x .store) (some (x .control))
   unfolding runFrom onward
   stops-if cs k s o r x =
-      ap (λ l. runFrom m l k s o) (x .is)
-      ∙ run-reaches m (x .store) (some (x .control)) (x .before) s o (x .reached) (x .choice ∷ x .rest) k
-      ∙ stopped (k + length (x .before))
+      rw (x .is, run-reaches m (x .store) (some (x .control)) (x .before) s o (x .reached) (x .choice ∷ x .rest) k)
+      (stopped (k + length (x .before)))
     where
       stopped : (j : ℕ)
           → runFrom m (x .choice ∷ x .rest) j (x .store) (some (x .control))
@@ -126,7 +121,7 @@ module _ {S E : Type 0} (m : Machine S E) where
           record {
             used = i ∷ y .used;
             rest = y .rest;
-            is = ap (λ l. i ∷ l) (y .is);
+            is = rw (y .is);
             reached = goes e (y .reached);
             counts = omega (arith, y .counts);
           }

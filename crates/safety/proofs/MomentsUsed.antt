@@ -2,34 +2,32 @@
 -- used (`moment-passed`); and it is a moment of every run whose choices begin with these (`moment-longer`).
 -- Assumes nothing.
 use Prim.Native.Nat.{ℕ}
-use mathlib.Core.Path.{_≡_, ap, _∙_}
+use mathlib.Core.Path.{_≡_}
 use mathlib.Core.Option.{Option, some}
 use mathlib.Core.List.{List, _++_, append-assoc}
-use native.Mathlib.Omega.{arith}
+use native.Mathlib.Nat.{zero-add}
 use lib.ListN.{length}
 use borrow.Author.Tests.{le-leb}
 use Rattle.rules.specs.State.{mostParts}
 use Rattle.rules.specs.Control.{Control, parts, fits}
 use Rattle.rules.specs.Step.{Machine}
-use Rattle.rules.specs.Run.{runFrom, run, begins}
+use Rattle.rules.specs.Run.{runFrom, Start, run, begins}
 use Rattle.safety.specs.Reaches.{Moment}
 use Rattle.safety.proofs.Reaches.{run-reaches}
 
-module _ {S E : Type 0} (m : Machine S E) (s₀ : S) (root : ℕ) (cs : List ℕ) (s : S) (o : Option Control) (x : Moment m s₀ root cs s o) where
-  pub moment-passed : run m s₀ root cs ≡ runFrom m (x .rest) (length (x .used)) s o
-  unfolding run begins fits
+module _ {S E : Type 0} (m : Machine S E) (st : Start S) (root : ℕ) (cs : List ℕ) (s : S) (o : Option Control) (x : Moment m st root cs s o) where
+  pub moment-passed : run m st root cs ≡ runFrom m (x .rest) (length (x .used)) s o
+  unfolding run fits
   moment-passed =
-      rw (le-leb (parts (begins m root)) mostParts (x .fits))
-      (ap (λ l. runFrom m l 0 s₀ (some (begins m root))) (x .is)
-      ∙ run-reaches m s o (x .used) s₀ (some (begins m root)) (x .reached) (x .rest) 0
-      ∙ ap (λ (j : ℕ). runFrom m (x .rest) j s o) (omega arith))
+      let reaches = run-reaches m s o (x .used) (st .store) (some (begins m st root)) (x .reached) (x .rest) 0 in
+      rw (le-leb (parts (begins m st root)) mostParts (x .fits), x .is, reaches, zero-add)
 
-  pub moment-longer : (ds : List ℕ) → Moment m s₀ root (cs ++ ds) s o
+  pub moment-longer : (ds : List ℕ) → Moment m st root (cs ++ ds) s o
   moment-longer ds =
       record {
         fits = x .fits;
         used = x .used;
         rest = x .rest ++ ds;
-        is = ap (λ l. l ++ ds) (x .is) ∙ append-assoc (x .used) (x .rest) ds;
+        is = rw (x .is, append-assoc);
         reached = x .reached;
       }

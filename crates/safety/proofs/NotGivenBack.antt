@@ -6,11 +6,11 @@ use mathlib.Core.Path.{_≡_, subst, sym, _∙_}
 use mathlib.Core.Option.{Option, some}
 use mathlib.Core.List.{List}
 use native.Mathlib.Omega.{arith}
-use lib.ListN.{length, getElem?, replicate}
+use lib.ListN.{replicate}
 use Rattle.laws.specs.Lists.{entry-new}
 use Rattle.rules.specs.declared.Frame.{Frame}
 use Rattle.rules.specs.declared.Value.the-variants.{Null}
-use Rattle.rules.specs.State.{Store, pushFrame, pushObject}
+use Rattle.rules.specs.State.{Store, pushFrame, pushObject, object, frameAt, objectAt, nextFrame, nextObject}
 use Rattle.rules.specs.Script.{Script}
 use Rattle.rules.specs.Control.{Control}
 use Rattle.rules.specs.Step.{miniOO}
@@ -47,10 +47,10 @@ not-given-back sc s′ o′ _ _ _ (goes {i = i} {cs = cs} {s = s} {t = t} {s₁ 
 
 -- ---- numbered as they are made
 
-pub frame-numbered : (s : Store) (f : Frame) → getElem? (pushFrame f s .frames) (length (s .frames)) ≡ some f
+pub frame-numbered : (s : Store) (f : Frame) → frameAt (pushFrame f s) (nextFrame s) ≡ some f
 unfolding pushFrame
 frame-numbered s f = entry-new (s .frames) f
 
-pub object-numbered : (F : ℕ) (s : Store) → getElem? (pushObject F s .objects) (length (s .objects)) ≡ some (replicate F Null)
+pub object-numbered : (F : ℕ) (s : Store) → objectAt (pushObject F s) (nextObject s) ≡ some (object (replicate F Null))
 unfolding pushObject
-object-numbered F s = entry-new (s .objects) (replicate F Null)
+object-numbered F s = entry-new (s .objects) (object (replicate F Null))

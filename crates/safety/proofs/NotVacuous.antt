@@ -5,26 +5,25 @@
 use Prim.Native.Nat.{ℕ, zero, suc, _<_, _≤_}
 use mathlib.Core.Path.{_≡_, refl, sym, subst}
 use mathlib.Core.Bool.{Bool, true, false, _&&_}
-use mathlib.Core.Option.{Option, none, some}
+use mathlib.Core.Option.{Option, none, some, Option·none-ne-some, Option·some-injective}
 use mathlib.Core.List.{List, [], _∷_}
 use native.Mathlib.Omega.{arith}
-use lib.ListN.{length, getD, getElem?, replicate}
+use lib.ListN.{getD, getElem?, replicate}
 use lib.Dec.{T, ltb, ltb→lt}
 use Rattle.rules.specs.declared.Chain.the-variants.{Empty, From}
-use Rattle.rules.specs.declared.Value.{Value}
-use Rattle.rules.specs.declared.Value.the-variants.{Int, Object, Proc}
+use Rattle.rules.specs.declared.Value.the-variants.{Null, Int, Object, Proc}
 use Rattle.rules.specs.declared.Frame.{Frame}
-use Rattle.rules.specs.declared.Verdict.the-variants.{Accepted}
-use Rattle.rules.specs.State.{size, Store, empty, mostParts, frame}
+use Rattle.rules.specs.declared.Verdict.the-variants.{Accepted, Refused}
+use Rattle.rules.specs.State.{size, Store, empty, mostParts, frame, AnObject, frameAt, objectAt, framesUsed, objectsUsed, HasFrame, HasObject}
 use Rattle.rules.specs.Refusals.{check}
 use Rattle.rules.specs.Published.{Bytes}
 use Rattle.rules.specs.Script.{Script, scriptOf, rootOf}
 use Rattle.rules.specs.Control.{Control, command, followed, beside, entered, parts, atomIn}
 use Rattle.rules.specs.Step.{miniOO}
-use Rattle.rules.specs.Run.{runScript, begins}
+use Rattle.rules.specs.Run.{Start, bare, runScript, run, begins}
 use Rattle.rules.proofs.Opens.{opens}
 use Rattle.rules.proofs.Cases.{recursive, inAtom, ownStacks}
-use Rattle.safety.specs.Safe.{FitCmd, Real, Safe}
+use Rattle.safety.specs.Safe.{FitCmd, Real, RealFrame, RealObject, outermost, within, Given, Safe}
 use Rattle.safety.specs.Atoms.{Sealed, AtomMoves}
 use Rattle.safety.proofs.ReachesMoments.{run-moment}
 use Rattle.safety.proofs.Demand3.{At, always-safe, only-the-entered-block-moves}
@@ -48,14 +47,14 @@ bytes-if (b ∷ img) h i = go (ltb b 256) refl h i (λ k j. bytes-if img k j)
 
 -- ---- an accepted script is safe in the state that any choices leave
 
-module _ (img : List ℕ) (are-bytes : Bytes img) (accepted : check size img ≡ Accepted) where
-  pub left-safe : parts (begins (miniOO (scriptOf img)) (rootOf img)) ≤ mostParts
+module _ (img : List ℕ) (are-bytes : Bytes img) (accepted : check [] size img ≡ Accepted) where
+  pub left-safe : parts (begins (miniOO (scriptOf img)) bare (rootOf img)) ≤ mostParts
       → (choices : List ℕ)
       → Safe (scriptOf img) (runScript img choices .store) (runScript img choices .control)
   unfolding runScript
   left-safe h choices =
       always-safe size img are-bytes accepted choices (runScript img choices .store) (runScript img choices .control)
-      (run-moment (scriptOf img) (rootOf img) choices h)
+      (run-moment (scriptOf img) bare (rootOf img) choices h)
 
 abbrev pub framesOnly : List Frame → Store
 framesOnly fs = record { frames = fs; objects = [] }
@@ -66,7 +65,7 @@ pub d-bytes : Bytes recursive
 unfolding opens allBytes
 d-bytes = bytes-if recursive tt
 
-pub d-accepted : check size recursive ≡ Accepted
+pub d-accepted : check [] size recursive ≡ Accepted
 unfolding opens
 d-accepted = refl
 
@@ -101,7 +100,7 @@ pub h-bytes : Bytes inAtom
 unfolding opens allBytes
 h-bytes = bytes-if inAtom tt
 
-pub h-accepted : check size inAtom ≡ Accepted
+pub h-accepted : check [] size inAtom ≡ Accepted
 unfolding opens
 h-accepted = refl
 
@@ -112,7 +111,7 @@ h-third = left-safe inAtom h-bytes h-accepted (omega arith) (0 ∷ 0 ∷ 0 ∷ [
 -- .. by the third step, which moves the atom at node 11: so from there on only that block moves, until it is left
 h-before : At size inAtom h-bytes h-accepted (0 ∷ 0 ∷ []) (framesOnly (frame 0 Empty (Int 0) ∷ [])) (some (beside (command 11 (From 0)) (command 14 (From 0))))
 unfolding opens begins runScript
-h-before = run-moment (scriptOf inAtom) (rootOf inAtom) (0 ∷ 0 ∷ []) (omega arith)
+h-before = run-moment (scriptOf inAtom) bare (rootOf inAtom) (0 ∷ 0 ∷ []) (omega arith)
 
 unfoldable pub h-atom-moves : AtomMoves (scriptOf inAtom) (beside (command 11 (From 0)) (command 14 (From 0))) 0 10 (From 0)
 unfolding opens
@@ -139,30 +138,67 @@ k-fits = (
 
 module _ (sc : Script) (s : Store) where
   -- a command whose chain is a frame that isn't there
-  pub no-such-frame : (n k : ℕ) → length (s .frames) ≤ k → Safe sc s (some (command n (From k))) → ⊥
-  no-such-frame n k h safe = let old : k < length (s .frames) = safe .control .placed .seen .chain .exists in omega arith
+  pub no-such-frame : (n k : ℕ) → framesUsed s ≤ k → Safe sc s (some (command n (From k))) → ⊥
+  no-such-frame n k h safe = let old : HasFrame s k = safe .control .placed .seen .chain .exists in omega arith
 
   -- a cell that holds an object past the count
   pub no-such-object : (o : Option Control) (k m : ℕ) (f : Frame)
-      → getElem? (s .frames) k ≡ some f
+      → frameAt s k ≡ some f
       → f .cell ≡ Object m
-      → length (s .objects) ≤ m
+      → objectsUsed s ≤ m
       → Safe sc s o
       → ⊥
   no-such-object o k m f e c h safe =
-      let old : m < length (s .objects) = subst (Real sc s) c (safe .store .frames k f e .cell) in omega arith
+      let old : HasObject s m = subst (Real sc s) c (safe .store .frames k f e .cell) in omega arith
 
   -- .. or a field
-  pub no-such-object-in-a-field : (o : Option Control) (k i m : ℕ) (vs : List Value)
-      → getElem? (s .objects) k ≡ some vs
-      → getElem? vs i ≡ some (Object m)
-      → length (s .objects) ≤ m
+  pub no-such-object-in-a-field : (o : Option Control) (k i m : ℕ) (obj : AnObject)
+      → objectAt s k ≡ some obj
+      → getElem? (obj .values) i ≡ some (Object m)
+      → objectsUsed s ≤ m
       → Safe sc s o
       → ⊥
-  no-such-object-in-a-field o k i m vs e c h safe =
-      let old : m < length (s .objects) = safe .store .objects k vs e .fields i (Object m) c in omega arith
+  no-such-object-in-a-field o k i m obj e c h safe =
+      let old : HasObject s m = safe .store .objects k obj e .fields i (Object m) c in omega arith
 
   -- two atoms entered side by side
   pub no-two-atoms : (l r : Control) → Safe sc s (some (beside (entered l) (entered r))) → ⊥
   unfolding atomIn
   no-two-atoms l r safe = safe .control .nested .0
+
+-- ---- a start that is given: a frame of name 0, whose cell is null, around the root
+
+unfoldable pub oneFrame : Start Store
+oneFrame = record { store = framesOnly (frame 0 Empty Null ∷ []); chain = From 0; names = 0 ∷ [] }
+
+frame-real : (sc : Script) → 0 < sc .names → (k : ℕ) (f : Frame) → getElem? (frame 0 Empty Null ∷ []) k ≡ some f → RealFrame sc (oneFrame .store) f
+unfolding oneFrame
+frame-real sc h zero f e = subst (RealFrame sc (framesOnly (frame 0 Empty Null ∷ []))) (Option·some-injective _ _ e) (record { name = h; outer = tt; cell = tt })
+frame-real sc h (suc k) f e = absurd (Option·none-ne-some _ e)
+
+object-real : (sc : Script) (o : ℕ) (obj : AnObject) → getElem? {A = AnObject} [] o ≡ some obj → RealObject sc (oneFrame .store) obj
+object-real sc o obj e = absurd (Option·none-ne-some _ e)
+
+pub one-frame-given : (sc : Script) → 0 < sc .names → Given sc oneFrame
+unfolding oneFrame
+one-frame-given sc h =
+    record {
+      store = record { frames = frame-real sc h; objects = object-real sc; few-frames = omega arith; few-objects = omega arith };
+      chain = record { exists = omega arith; env = within (frame 0 Empty Null) refl outermost };
+    }
+
+-- `x = 1`, with no declaration
+unfoldable pub assignsGiven : List ℕ
+assignsGiven = 10 ∷ 0 ∷ 0 ∷ 0 ∷ 10 ∷ 0 ∷ 2 ∷ 0 ∷ 1 ∷ 0 ∷ 2 ∷ 0 ∷ 1 ∷ 0 ∷ 0 ∷ 0 ∷ 0 ∷ 0 ∷ 35 ∷ 0 ∷ 0 ∷ 0 ∷ 0 ∷ 0 ∷ 0 ∷ 0 ∷ []
+
+pub given-accepted : check (0 ∷ []) size assignsGiven ≡ Accepted
+unfolding assignsGiven opens
+given-accepted = refl
+
+pub given-refused : check [] size assignsGiven ≡ Refused 9 1
+unfolding assignsGiven opens
+given-refused = refl
+
+pub given-runs : run (miniOO (scriptOf assignsGiven)) oneFrame 1 (0 ∷ []) .store ≡ framesOnly (frame 0 Empty (Int 1) ∷ [])
+unfolding assignsGiven oneFrame opens run begins
+given-runs = refl

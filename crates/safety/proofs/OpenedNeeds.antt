@@ -1,7 +1,7 @@
 -- What a sequence or parallel needs: all that the commands need which it is opened to, those that can move and those that
 -- wait, in its own chain (document 01, "Steps": opened whenever they are put into control). Assumes nothing.
 use Prim.Native.Nat.{ℕ}
-use mathlib.Core.Path.{_≡_, refl, sym, subst}
+use mathlib.Core.Path.{_≡_, refl, subst}
 use mathlib.Core.Option.{some}
 use lib.ListN.{getElem?}
 use lib.Dec.{T}
@@ -15,7 +15,7 @@ use Rattle.rules.specs.Step.{put}
 use Rattle.rules.proofs.Around as Around
 use Rattle.safety.specs.Safe.{FitCmd, single}
 use Rattle.safety.specs.Needs.{needs}
-use Rattle.safety.proofs.LinksNeeded.{or-left, or-right}
+use Rattle.safety.proofs.LinksNeeded.{or-from-left, or-from-right}
 use Rattle.safety.proofs.Progress.{fit-at}
 use Rattle.safety.proofs.Focus.{Focus, focus}
 use Rattle.safety.proofs.Plug.{nested-opened}
@@ -60,12 +60,12 @@ module _ (sc : Script) (visible : Names) (ch : Chain) where
       let e = fit-at sc c visible h in
       record {
         chain = refl;
-        scoped = subst (λ (d : Cmd). FitCmd sc visible d) (sym e) h;
-        less = λ x k. subst (λ (d : Cmd). T (needs d x)) e k;
+        scoped = rw e h;
+        less = λ x k. rw e at k;
       }
 
   alone : (c : Cmd) → T (single c) → FitCmd sc visible c → T (single (sc .cmdAt (cmdNo c))) × Less c (cmdNo c) ch
-  alone c t h = (subst (λ (d : Cmd). T (single d)) (sym (fit-at sc c visible h)) t, less-at c h)
+  alone c t h = (rw (fit-at sc c visible h) t, less-at c h)
 
   part : (a c : Cmd) → ((x : ℕ) → T (needs a x) → T (needs c x)) → (n : ℕ) (dh : Chain) → Less a n dh → Less c n dh
   part a c f n dh h = record { chain = h .chain; scoped = h .scoped; less = λ x k. f x (h .less x k) }
@@ -81,14 +81,14 @@ module _ (sc : Script) (visible : Names) (ch : Chain) where
   opened-less (assignField n a b c) h = alone (assignField n a b c) tt h
   opened-less (skip n) h = alone (skip n) tt h
   opened-less (seq n a b) h = (
-    each-more (Less a) (Less (seq n a b)) (part a (seq n a b) λ x. or-left (needs a x) (needs b x)) (opened a ch) (opened-less a (h .1)),
-    part b (seq n a b) (λ x. or-right (needs a x) (needs b x)) (cmdNo b) ch (less-at b (h .2)),
+    each-more (Less a) (Less (seq n a b)) (part a (seq n a b) λ x. or-from-left (needs a x) (needs b x)) (opened a ch) (opened-less a (h .1)),
+    part b (seq n a b) (λ x. or-from-right (needs a x) (needs b x)) (cmdNo b) ch (less-at b (h .2)),
   )
   opened-less (while n t c) h = alone (while n t c) tt h
   opened-less (if n t a b) h = alone (if n t a b) tt h
   opened-less (par n a b) h = (
-    each-more (Less a) (Less (par n a b)) (part a (par n a b) λ x. or-left (needs a x) (needs b x)) (opened a ch) (opened-less a (h .1)),
-    each-more (Less b) (Less (par n a b)) (part b (par n a b) λ x. or-right (needs a x) (needs b x)) (opened b ch) (opened-less b (h .2)),
+    each-more (Less a) (Less (par n a b)) (part a (par n a b) λ x. or-from-left (needs a x) (needs b x)) (opened a ch) (opened-less a (h .1)),
+    each-more (Less b) (Less (par n a b)) (part b (par n a b) λ x. or-from-right (needs a x) (needs b x)) (opened b ch) (opened-less b (h .2)),
   )
   opened-less (atom n c) h = alone (atom n c) tt h
 

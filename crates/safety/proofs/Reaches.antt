@@ -1,14 +1,15 @@
 -- Moments of a run, for any machine: a run over more choices is the run from the moment that the first of them reach,
 -- with the steps counted; moments that follow each other; the same choices reach the same moment. Assumes nothing.
 use Prim.Native.Nat.{ℕ, suc, _+_}
-use mathlib.Core.Path.{_≡_, refl, sym, ap, _∙_}
+use mathlib.Core.Path.{_≡_, refl, sym, _∙_}
 use mathlib.Core.Option.{Option, none, some}
 use mathlib.Core.List.{List, [], _∷_, _++_}
+use native.Mathlib.Nat.{add-zero}
 use native.Mathlib.Omega.{arith}
 use lib.ListN.{length}
 use Rattle.rules.specs.Control.{Control}
 use Rattle.rules.specs.Step.{Machine}
-use Rattle.rules.specs.Run.{Ran, ran, onward, runFrom}
+use Rattle.rules.specs.Run.{ran, onward, runFrom}
 use Rattle.safety.specs.Reaches.{Reaches, stays, goes}
 
 module _ {S E : Type 0} (m : Machine S E) where
@@ -18,9 +19,10 @@ module _ {S E : Type 0} (m : Machine S E) where
       → (ds : List ℕ) (k : ℕ)
       → runFrom m (cs ++ ds) k s o ≡ runFrom m ds (k + length cs) s′ o′
   unfolding runFrom onward
-  run-reaches s′ o′ _ _ _ stays ds k = ap (λ (j : ℕ). runFrom m ds j s′ o′) (omega arith)
+  run-reaches s′ o′ _ _ _ stays ds k = rw (add-zero k)
   run-reaches s′ o′ _ _ _ (goes {i = i} {cs = cs} {s = s} {t = t} {s₁ = s₁} {o = o} e r) ds k =
-      rw e (run-reaches s′ o′ cs s₁ o r ds (suc k) ∙ ap (λ (j : ℕ). runFrom m ds j s′ o′) (omega arith))
+      let z : k + suc (length cs) ≡ suc k + length cs = omega arith in
+      rw (e, z) (run-reaches s′ o′ cs s₁ o r ds (suc k))
 
   -- one after the other
   pub reach-on : (s₂ : S) (o₂ : Option Control) (ds : List ℕ) (s₁ : S) (o₁ : Option Control)
@@ -56,8 +58,8 @@ module _ {S E : Type 0} (m : Machine S E) where
   reach-same cs s o s₁ s₂ o₁ o₂ a b =
       let q : runFrom m [] (0 + length cs) s₁ o₁ ≡ runFrom m [] (0 + length cs) s₂ o₂ =
       sym (run-reaches s₁ o₁ cs s o a [] 0) ∙ run-reaches s₂ o₂ cs s o b [] 0 in (
-        sym (at s₁ o₁) ∙ ap (λ (r : Ran S). r .store) q ∙ at s₂ o₂,
-        sym (of s₁ o₁) ∙ ap (λ (r : Ran S). r .control) q ∙ of s₂ o₂,
+        sym (at s₁ o₁) ∙ rw q (at s₂ o₂),
+        sym (of s₁ o₁) ∙ rw q (of s₂ o₂),
       )
     where
       at : (z : S) (p : Option Control) → (runFrom m [] (0 + length cs) z p) .store ≡ z

@@ -1,4 +1,4 @@
--- Demand 3 at any moment of a run of a script whose root fits, for any choices: the invariant; the names that the next
+-- Demand 3 at any moment of a run of a script whose root fits, from any start that fits, for any choices: the invariant; the names that the next
 -- step could need; the values held; something can move; only an entered block moves; how the run can end.
 -- Room is in RoomsRuns. Assumes nothing.
 use Prim.Native.Nat.{ℕ, _<_, _≤_}
@@ -13,14 +13,14 @@ use borrow.Author.Tests.{le-leb}
 use Rattle.rules.specs.declared.Chain.{Chain}
 use Rattle.rules.specs.declared.Value.{Value}
 use Rattle.rules.specs.declared.Value.the-variants.{Nothing}
-use Rattle.rules.specs.State.{Store, empty, mostParts}
+use Rattle.rules.specs.State.{Store, mostParts}
 use Rattle.rules.specs.Script.{Script}
 use Rattle.rules.specs.Control.{Control, parts, fits, atomIn, Move, move, movable, goesTo}
 use Rattle.rules.specs.Step.{step, miniOO}
-use Rattle.rules.specs.Run.{runFrom, run, begins}
+use Rattle.rules.specs.Run.{runFrom, Start, run, begins}
 use Rattle.rules.specs.Numbers.{endNo, endValues}
 use Rattle.rules.proofs.ControlLaws.{some-moves}
-use Rattle.safety.specs.Safe.{FitCmd, Real, Safe}
+use Rattle.safety.specs.Safe.{FitCmd, Real, Given, Safe}
 use Rattle.safety.specs.Needs.{needs}
 use Rattle.safety.specs.Found.{Borne, HeldIn}
 use Rattle.safety.specs.Reaches.{Moment, Left}
@@ -32,14 +32,14 @@ use Rattle.safety.proofs.Entered.{innermost, others-wait}
 use Rattle.safety.proofs.AtomsNodes.{only-that-atom-moves}
 use Rattle.safety.proofs.Preserved.{start-safe, reaches-safe, ready-at, run-sound}
 
-module _ (sc : Script) (root : ℕ) (cs : List ℕ) (fit : FitCmd sc [] (sc .cmdAt root)) where
-  pub moment-safe : (s : Store) (o : Option Control) → Moment (miniOO sc) empty root cs s o → Safe sc s o
+module _ (sc : Script) (st : Start Store) (given : Given sc st) (root : ℕ) (cs : List ℕ) (fit : FitCmd sc (st .names) (sc .cmdAt root)) where
+  pub moment-safe : (s : Store) (o : Option Control) → Moment (miniOO sc) st root cs s o → Safe sc s o
   moment-safe s o x =
-      reaches-safe sc s o (x .used) empty (some (begins (miniOO sc) root)) (x .reached) (start-safe sc root fit (x .fits))
+      reaches-safe sc s o (x .used) (st .store) (some (begins (miniOO sc) st root)) (x .reached) (start-safe sc st given root fit (x .fits))
 
   -- Every name the next step could need is found, on its own command's chain, in a cell that exists.
   pub needed-found : (s : Store) (t : Control)
-      → Moment (miniOO sc) empty root cs s (some t)
+      → Moment (miniOO sc) st root cs s (some t)
       → (i n : ℕ) (ch : Chain) (x : ℕ)
       → getElem? (movable t) i ≡ some (move n ch)
       → T (needs (sc .cmdAt n) x)
@@ -50,18 +50,18 @@ module _ (sc : Script) (root : ℕ) (cs : List ℕ) (fit : FitCmd sc [] (sc .cmd
 
   -- Every object and procedure held anywhere exists; and nothing is never held.
   pub held-real : (s : Store) (o : Option Control)
-      → Moment (miniOO sc) empty root cs s o
+      → Moment (miniOO sc) st root cs s o
       → (v : Value)
       → HeldIn s v
       → Real sc s v
   held-real s o x v h = held-exists sc s (moment-safe s o x .store) v h
 
-  pub nothing-held : (s : Store) (o : Option Control) → Moment (miniOO sc) empty root cs s o → HeldIn s Nothing → ⊥
+  pub nothing-held : (s : Store) (o : Option Control) → Moment (miniOO sc) st root cs s o → HeldIn s Nothing → ⊥
   nothing-held s o x h = never-nothing sc s (moment-safe s o x .store) h
 
   -- From the step that enters an atomic block to the step that leaves it, only that block moves.
   pub only-the-block-moves : (s : Store) (t : Control)
-      → Moment (miniOO sc) empty root cs s (some t)
+      → Moment (miniOO sc) st root cs s (some t)
       → (i n : ℕ) (ch : Chain)
       → AtomMoves sc t i n ch
       → (s₁ : Store) (o₁ : Option Control)
@@ -72,7 +72,7 @@ module _ (sc : Script) (root : ℕ) (cs : List ℕ) (fit : FitCmd sc [] (sc .cmd
 
   -- At any moment with an entered atom, the movable commands are those inside the innermost one.
   pub inside-only : (s : Store) (t : Control)
-      → Moment (miniOO sc) empty root cs s (some t)
+      → Moment (miniOO sc) st root cs s (some t)
       → atomIn t ≡ true
       → (x : Innermost t) × (movable t ≡ movable (x .inner))
   inside-only s t y e =
@@ -80,8 +80,8 @@ module _ (sc : Script) (root : ℕ) (cs : List ℕ) (fit : FitCmd sc [] (sc .cmd
       (x, others-wait t (moment-safe s (some t) y .control .nested) (x .stands))
 
   -- The run can stop only as done, as one of the seven faults, for the choices, or for room.
-  pub ends-numbered : EndNumbered (sc .nodes) (endNo (run (miniOO sc) empty root cs .end)) (endValues (run (miniOO sc) empty root cs .end))
-  ends-numbered = run-sound sc root cs fit .end
+  pub ends-numbered : EndNumbered (sc .nodes) (endNo (run (miniOO sc) st root cs .end)) (endValues (run (miniOO sc) st root cs .end))
+  ends-numbered = run-sound sc st given root fit cs .end
 
 -- While something is left in control, something can move.
 pub can-move : (t : Control) → (v : Move) × (getElem? (movable t) 0 ≡ some v)
@@ -92,12 +92,12 @@ can-move t = go (movable t) (some-moves t)
     go (v ∷ l) h = (v, refl)
 
 -- What a run leaves is one of its moments.
-pub run-moment : (sc : Script) (root : ℕ) (cs : List ℕ)
-    → parts (begins (miniOO sc) root) ≤ mostParts
-    → Moment (miniOO sc) empty root cs ((run (miniOO sc) empty root cs) .store) ((run (miniOO sc) empty root cs) .control)
-unfolding run begins fits
-run-moment sc root cs h =
-    let b : Control = begins (miniOO sc) root in
-    let x : Left (miniOO sc) cs 0 empty (some b) (runFrom (miniOO sc) cs 0 empty (some b)) =
-    run-leaves (miniOO sc) cs 0 empty (some b) in
+pub run-moment : (sc : Script) (st : Start Store) (root : ℕ) (cs : List ℕ)
+    → parts (begins (miniOO sc) st root) ≤ mostParts
+    → Moment (miniOO sc) st root cs ((run (miniOO sc) st root cs) .store) ((run (miniOO sc) st root cs) .control)
+unfolding run fits
+run-moment sc st root cs h =
+    let b : Control = begins (miniOO sc) st root in
+    let x : Left (miniOO sc) cs 0 (st .store) (some b) (runFrom (miniOO sc) cs 0 (st .store) (some b)) =
+    run-leaves (miniOO sc) cs 0 (st .store) (some b) in
     rw (le-leb (parts b) mostParts h) (record { fits = h; used = x .used; rest = x .rest; is = x .is; reached = x .reached })

@@ -6,6 +6,7 @@ use mathlib.Core.Path.{_≡_, refl, sym, ap, subst, subst₂, _∙_}
 use mathlib.Core.Logic.{_↔_}
 use mathlib.Core.Option.{Option, none, some}
 use mathlib.Core.List.{List, [], _++_, append-assoc, append-nil}
+use native.Mathlib.Nat.{zero-add}
 use native.Mathlib.Omega.{arith}
 use lib.ListN.{length, take, drop, length-append, take-append-drop}
 use lib.Seq.{take-append-seam}
@@ -15,7 +16,7 @@ use Rattle.rules.specs.declared.End.the-variants.{Done, UsedUp, Stopped}
 use Rattle.rules.specs.State.{mostParts}
 use Rattle.rules.specs.Control.{Control, parts, fits}
 use Rattle.rules.specs.Step.{Machine}
-use Rattle.rules.specs.Run.{Ran, ran, runFrom, run, begins}
+use Rattle.rules.specs.Run.{Ran, ran, runFrom, Start, run, begins}
 use Rattle.safety.specs.Reaches.{Reaches, Moment, EndsSo, Left}
 use Rattle.safety.proofs.Reaches.{run-reaches}
 use Rattle.safety.proofs.Ends.{ends-only, done-if, used-up-if, stops-if, run-leaves}
@@ -33,7 +34,7 @@ module _ {S E : Type 0} (m : Machine S E) where
       → Stood (runFrom m cs k s o) (k + length cs) s′ o′
   unfolding runFrom ran
   reached-stood s′ o′ cs k s o r =
-      subst (λ (x : Ran S). Stood x (k + length cs) s′ o′) (sym (ap (λ l. runFrom m l k s o) (sym (append-nil cs)) ∙ run-reaches m s′ o′ cs s o r [] k)) (here o′)
+      rw (rw append-nil at (run-reaches m s′ o′ cs s o r [] k)) (here o′)
     where
       here : (p : Option Control) → Stood (runFrom m [] (k + length cs) s′ p) (k + length cs) s′ p
       here none = record { steps = refl; store = refl; control = refl }
@@ -53,15 +54,12 @@ module _ {S E : Type 0} (m : Machine S E) where
   firsts cs used rest k s o s′ o′ e r =
       record {
         enough = let l = ap length e ∙ length-append used rest in omega (arith, l);
-        stood =
-            subst (λ (l : List ℕ). Stood (runFrom m l k s o) (k + length used) s′ o′)
-            (sym (ap (take (length used)) e ∙ take-append-seam used rest)) (reached-stood s′ o′ used k s o r);
+        stood = rw (e, take-append-seam used rest) (reached-stood s′ o′ used k s o r);
       }
 
   -- of the choices that a run over the first n uses, the first of all are made
   longer : (cs : List ℕ) (n : ℕ) (used rest : List ℕ) → take n cs ≡ used ++ rest → cs ≡ used ++ (rest ++ drop n cs)
-  longer cs n used rest e =
-      sym (take-append-drop n cs) ∙ ap (λ l. l ++ drop n cs) e ∙ append-assoc used rest (drop n cs)
+  longer cs n used rest e = sym (rw (e, append-assoc) at (take-append-drop n cs))
 
   pub left-exactly : (cs : List ℕ) (k : ℕ) (s : S) (o : Option Control) (r : Ran S)
       → Left m cs k s o r ↔ ((n : ℕ) × (r .steps ≡ k + n) × Firsts cs k s o n (r .store) (r .control))
@@ -82,25 +80,24 @@ module _ {S E : Type 0} (m : Machine S E) where
 
   -- ---- moments
 
-  pub moment-exactly : (s₀ : S) (root : ℕ) (cs : List ℕ) (s : S) (o : Option Control)
-      → Moment m s₀ root cs s o ↔ ((parts (begins m root) ≤ mostParts) × ((n : ℕ) × Firsts cs 0 s₀ (some (begins m root)) n s o))
+  pub moment-exactly : (st : Start S) (root : ℕ) (cs : List ℕ) (s : S) (o : Option Control)
+      → Moment m st root cs s o ↔ ((parts (begins m st root) ≤ mostParts) × ((n : ℕ) × Firsts cs 0 (st .store) (some (begins m st root)) n s o))
   unfolding ran
-  moment-exactly s₀ root cs s o = (
-    λ x. (x .fits, (length (x .used), firsts cs (x .used) (x .rest) 0 s₀ (some (begins m root)) s o (x .is) (x .reached))),
+  moment-exactly st root cs s o = (
+    λ x. (x .fits, (length (x .used), firsts cs (x .used) (x .rest) 0 (st .store) (some (begins m st root)) s o (x .is) (x .reached))),
     λ y.
         let r : Ran S = ran Done (y .1 .0) s o in
-        let x : Left m cs 0 s₀ (some (begins m root)) r = left-exactly cs 0 s₀ (some (begins m root)) r .1 (y .1 .0, omega arith, y .1 .1) in
+        let x : Left m cs 0 (st .store) (some (begins m st root)) r = left-exactly cs 0 (st .store) (some (begins m st root)) r .1 (y .1 .0, omega arith, y .1 .1) in
         record { fits = y .0; used = x .used; rest = x .rest; is = x .is; reached = x .reached },
   )
 
   -- .. so it is what the run from the root over the choices used leaves, a step for each
-  pub moment-run : (s₀ : S) (root : ℕ) (cs : List ℕ) (s : S) (o : Option Control) (x : Moment m s₀ root cs s o)
-      → Stood (run m s₀ root (x .used)) (length (x .used)) s o
-  unfolding run begins fits
-  moment-run s₀ root cs s o x =
-      rw (le-leb (parts (begins m root)) mostParts (x .fits))
-      (subst (λ (n : ℕ). Stood (runFrom m (x .used) 0 s₀ (some (begins m root))) n s o) (omega arith)
-      (reached-stood s o (x .used) 0 s₀ (some (begins m root)) (x .reached)))
+  pub moment-run : (st : Start S) (root : ℕ) (cs : List ℕ) (s : S) (o : Option Control) (x : Moment m st root cs s o)
+      → Stood (run m st root (x .used)) (length (x .used)) s o
+  unfolding run fits
+  moment-run st root cs s o x =
+      rw (le-leb (parts (begins m st root)) mostParts (x .fits))
+      (rw zero-add at (reached-stood s o (x .used) 0 (st .store) (some (begins m st root)) (x .reached)))
 
   -- ---- ends
 
@@ -109,6 +106,6 @@ module _ {S E : Type 0} (m : Machine S E) where
   ends-exactly cs k s o e = (λ f. subst (EndsSo m cs s o) f (ends-only m cs k s o), back e)
     where
       back : (x : End) → EndsSo m cs s o x → runFrom m cs k s o .end ≡ x
-      back Done x = ap (λ (r : Ran S). r .end) (done-if m cs k s o x)
-      back UsedUp x = ap (λ (r : Ran S). r .end) (used-up-if m cs k s o x)
-      back (Stopped q) x = ap (λ (r : Ran S). r .end) (stops-if m cs k s o q x)
+      back Done x = rw (done-if m cs k s o x)
+      back UsedUp x = rw (used-up-if m cs k s o x)
+      back (Stopped q) x = rw (stops-if m cs k s o q x)

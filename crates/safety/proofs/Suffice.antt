@@ -1,22 +1,22 @@
 -- The needed names suffice: demand 3, "every name the next step could need". In a store that fits, a command part whose
 -- needed names its chain bears is not stuck, whatever else that chain bears: so `needs` leaves out no name that the step
 -- reads or writes. A procedure that it makes is only known to be a proc of the script (`Stated`). Assumes nothing.
-use Prim.Native.Nat.{ℕ, _<_, _≤_}
+use Prim.Native.Nat.{ℕ, _≤_}
 use mathlib.Core.Path.{_≡_, subst}
 use mathlib.Core.Bool.{_||_}
 use mathlib.Core.Option.{some}
-use lib.ListN.{length, getElem?}
+use lib.ListN.{getElem?}
 use lib.Dec.{T, eqb, eqb-refl}
 use Rattle.rules.specs.Syntax.{Exp, Test, Cmd, noCmd, var, call, malloc, assign, assignField, skip, seq, while, if, par, atom}
 use Rattle.rules.specs.Scope.{Names}
 use Rattle.rules.specs.declared.Chain.{Chain}
 use Rattle.rules.specs.declared.Value.{Value}
-use Rattle.rules.specs.State.{Store, find, fieldOf}
+use Rattle.rules.specs.State.{Store, find, fieldOf, objectAt, HasFrame, HasObject}
 use Rattle.rules.specs.Script.{Script}
 use Rattle.rules.specs.Eval.{faultNo, noObject, noField, noProcedure, Res, stuck, there, Closure, closure, asObject, asField, asProc, stored, eval, test}
 use Rattle.rules.specs.Control.{opened, move, movable}
 use Rattle.rules.specs.Step.{calling, exec}
-use Rattle.safety.specs.Safe.{FitExp, FitTest, FitCmd, single, RealIf, ObjectFits, StoreFits}
+use Rattle.safety.specs.Safe.{FitExp, FitTest, FitCmd, single, RealIf, RealObject, RealStore}
 use Rattle.safety.specs.Fits.{Fine}
 use Rattle.safety.specs.Found.{Borne}
 use Rattle.safety.specs.Needs.{needsExp, needsTest, needs}
@@ -24,7 +24,7 @@ use Rattle.safety.proofs.LinksNeeded.{Bear, first, second}
 use Rattle.safety.proofs.OpenedNeeds.{opened-moves}
 use Rattle.safety.proofs.Fine.{Any, Of, Stated, fine-bind, fine-there, fine-object, fine-field, fine-proc, fine-stored, fine-entry, fine-field-of, fine-find, eval-borne, test-borne}
 
-module _ (sc : Script) (s : Store) (good : StoreFits sc s) (visible : Names) (ch : Chain) where
+module _ (sc : Script) (s : Store) (good : RealStore sc s) (visible : Names) (ch : Chain) where
   abbrev Held : Value → Type 0
   Held = RealIf sc (Stated sc) s
 
@@ -50,21 +50,21 @@ module _ (sc : Script) (s : Store) (good : StoreFits sc s) (visible : Names) (ch
       fine-bind sc (Of (Stated sc)) Any (asProc (faultNo noProcedure) n v) _ (fine-proc sc s (Stated sc) noProcedure n (h .0 .0) v r) λ p q.
       fine-calling (eval s ch e) p (fine-exp e (h .2) (second (s .frames) ch (needsExp a) (needsExp e) b)) q
   fine-single (malloc n x) t h b =
-      fine-bind sc (λ k. k < length (s .frames)) Any (there (find (s .frames) x ch)) _ (fine-find sc s ch x (b x (eqb-refl x))) λ k _. tt
+      fine-bind sc (λ k. HasFrame s k) Any (there (find (s .frames) x ch)) _ (fine-find sc s ch x (b x (eqb-refl x))) λ k _. tt
   fine-single (assign n x e) t h b =
-      fine-bind sc (λ k. k < length (s .frames)) Any (there (find (s .frames) x ch)) _ (fine-find sc s ch x (first (s .frames) ch (eqb x) (needsExp e) b x (eqb-refl x))) λ k _.
+      fine-bind sc (λ k. HasFrame s k) Any (there (find (s .frames) x ch)) _ (fine-find sc s ch x (first (s .frames) ch (eqb x) (needsExp e) b x (eqb-refl x))) λ k _.
       fine-bind sc Held Any (eval s ch e) _ (fine-exp e (h .2) (second (s .frames) ch (eqb x) (needsExp e) b)) λ v _. tt
   fine-single (assignField n a e c) t h b =
       let both : Bear (s .frames) ch (λ x. needsExp a x || needsExp e x) = first (s .frames) ch (λ x. needsExp a x || needsExp e x) (needsExp c) b in
       fine-bind sc Held Any (eval s ch a) _ (fine-exp a (h .1) (first (s .frames) ch (needsExp a) (needsExp e) both)) λ v p.
       fine-bind sc Held Any (eval s ch e) _ (fine-exp e (h .2) (second (s .frames) ch (needsExp a) (needsExp e) both)) λ w q.
-      fine-bind sc (λ o. o < length (s .objects)) Any (asObject (faultNo noObject) n v) _ (fine-object sc s (Stated sc) noObject n (h .0 .0) v p) λ o l.
+      fine-bind sc (λ o. HasObject s o) Any (asObject (faultNo noObject) n v) _ (fine-object sc s (Stated sc) noObject n (h .0 .0) v p) λ o l.
       fine-bind sc (λ f. (1 ≤ f) × (f ≤ sc .fields)) Any (asField (faultNo noField) n w) _ (fine-field sc s (Stated sc) noField n (h .0 .0) w q) λ f m.
       fine-bind sc Held Any (stored (eval s ch c)) _
       (fine-stored sc s (Stated sc) (eval s ch c) (fine-exp c (h .3) (second (s .frames) ch (λ x. needsExp a x || needsExp e x) (needsExp c) b))) λ u _.
-      fine-bind sc (ObjectFits sc s) Any (there (getElem? (s .objects) o)) _
-      (fine-entry sc (ObjectFits sc s) (s .objects) o l (good .objects o)) λ vs fits.
-      fine-bind sc Held Any (there (fieldOf vs f)) _ (fine-field-of sc s (Stated sc) (λ n dh p. (_, p .is)) vs f fits m) λ old _. tt
+      fine-bind sc (RealObject sc s) Any (there (objectAt s o)) _
+      (fine-entry sc (RealObject sc s) (s .objects) o l (good .objects o)) λ obj fits.
+      fine-bind sc Held Any (there (fieldOf obj f)) _ (fine-field-of sc s (Stated sc) (λ n dh p. (_, p .is)) obj f fits m) λ old _. tt
   fine-single (skip n) t h b = tt
   fine-single (seq n a c) t h b = absurd t
   fine-single (while n e c) t h b = fine-bind sc Any Any (test sc s ch e) _ (fine-cond e (h .1) b) λ z _. tt

@@ -9,7 +9,7 @@ use lib.ListN.{length, getD, getElem?, set, length-set}
 use lib.Seq.{sets, length-sets, getD-set-same, getD-set-other}
 use borrow.Author.Tests.{le-leb}
 use Rattle.words.specs.Lent.{StepRow, rowWords, placeRow, placeRows}
-use Rattle.show.specs.Entries.{rowIn, rowsIn}
+use Rattle.show.specs.Entries.{lentRow, rowsIn}
 use Rattle.show.proofs.Listed.{listed-is}
 
 -- ---- words that were set one after the other
@@ -66,7 +66,7 @@ module _ (rs : List StepRow) (lent : List ℕ) (h : 5 * length rs ≤ length len
       let y : i ≡ 0 + (5 * k + j) = omega arith in
       rw y (row-word rs lent 0 k j r (omega arith) e l)
 
-  row-is : (k : ℕ) (r : StepRow) → getElem? rs k ≡ some r → rowIn (placeRows lent 0 rs) k ≡ r
+  row-is : (k : ℕ) (r : StepRow) → getElem? rs k ≡ some r → lentRow (placeRows lent 0 rs) k ≡ r
   unfolding rowWords
   row-is k r e =
       rw (
@@ -79,4 +79,4 @@ module _ (rs : List StepRow) (lent : List ℕ) (h : 5 * length rs ≤ length len
 
   pub rows-are : rowsIn (placeRows lent 0 rs) (length rs) ≡ rs
   unfolding rowsIn
-  rows-are = listed-is rs (rowIn (placeRows lent 0 rs)) row-is
+  rows-are = listed-is rs (lentRow (placeRows lent 0 rs)) row-is

@@ -1,20 +1,22 @@
 -- The loops that write line after line: before the first turn nothing stands, a turn adds the next entry's text, and the
 -- last turn leaves the text of all entries. Assumes nothing.
-use Prim.Native.Nat.{ℕ, zero, suc, _+_, _*_, _-_, _≤_}
+use Prim.Native.Nat.{ℕ, zero, suc, _+_, _*_, _≤_}
 use mathlib.Core.Path.{_≡_, refl, sym, ap, _∙_}
 use mathlib.Core.Bool.{true}
 use mathlib.Core.List.{List, [], _∷_, _++_, flatten}
 use native.Mathlib.Omega.{arith}
 use native.Mathlib.Numerals.{add-one}
-use lib.ListN.{length, getD, length-append}
+use lib.ListN.{length, length-append}
 use lib.Dec.{ltb}
 use borrow.Author.Tests.{ltb-true}
-use Rattle.rules.specs.Image.{fieldsOf}
+use Rattle.words.specs.Layout.{frameCount, objectCount}
+use Rattle.rules.specs.Image.{fieldsOf, mostFields}
 use Rattle.report.specs.Listing.{rowLine, rowLines, cellLine, cellLines, fieldLine, fieldLines, objectLines}
 use Rattle.report.proofs.Growing.{rows-more, cells-more, fields-more, objects-more}
 use Rattle.text.specs.Written.{Wrote}
 use Rattle.text.proofs.WroteLaws.{none-wrote, more-wrote, wrote-as}
-use Rattle.show.specs.Entries.{rowIn, frameIn, fieldIn, listed, upTo, rowsIn, framesUpTo, framesIn, fieldsUpTo, objectIn, objectsUpTo, objectsIn}
+use Rattle.rules.specs.State.{mostFrames, mostObjects}
+use Rattle.show.specs.Entries.{lentRow, frameIn, fieldWordIn, listed, atMost, rowsIn, framesUpTo, framesIn, fieldsUpTo, objectIn, objectsUpTo, objectsIn}
 
 listed-long : {A : Type 0} (f : ℕ → A) (n : ℕ) → length (listed f n) ≡ n
 unfolding listed
@@ -31,12 +33,12 @@ pub counts-on : (k n : ℕ) → ltb k n ≡ true → k + 1 ≤ n
 counts-on k n e = let l = ltb-true k n e in omega arith
 
 -- a loop that goes on below its limit and below a count ends at the lesser of the two
-pub ends-at : (most n k : ℕ) → k ≤ most → k ≤ n → most ≤ k → upTo most n ≡ k
-unfolding upTo
+pub ends-at : (most n k : ℕ) → k ≤ most → k ≤ n → most ≤ k → atMost most n ≡ k
+unfolding atMost
 ends-at most n k a b h = omega arith
 
-pub ends-at-count : (most n k : ℕ) → k ≤ most → k ≤ n → n ≤ k → upTo most n ≡ k
-unfolding upTo
+pub ends-at-count : (most n k : ℕ) → k ≤ most → k ≤ n → n ≤ k → atMost most n ≡ k
+unfolding atMost
 ends-at-count most n k a b h = omega arith
 
 module _ (at : ℕ) (d : List ℕ) where
@@ -48,16 +50,16 @@ module _ (at : ℕ) (d : List ℕ) where
     rows-none = none-wrote at d
 
     pub rows-turn : (i next r : ℕ) (e o : List ℕ) → Wrote (128 * i) d at (flatten (rowLines 1 (rowsIn rows i))) next e
-        → Wrote 128 e next (rowLine (i + 1) (rowIn rows i)) r o
+        → Wrote 128 e next (rowLine (i + 1) (lentRow rows i)) r o
         → Wrote (128 * (i + 1)) d at (flatten (rowLines 1 (rowsIn rows (i + 1)))) r o
     unfolding rowsIn
     rows-turn i next r e o v w =
-        let l = listed-long (rowIn rows) i in
+        let l = listed-long (lentRow rows) i in
         let z : 1 + length (rowsIn rows i) ≡ i + 1 = omega arith in
         more-wrote (128 * i) 128 (128 * (i + 1)) at next r _ _ _ d e o v w
-        (rw (listed-more (rowIn rows) i)
-        (rows-more (rowsIn rows i) 1 (rowIn rows i)
-        ∙ ap (λ (k : ℕ). flatten (rowLines 1 (rowsIn rows i)) ++ rowLine k (rowIn rows i)) z))
+        (rw (listed-more (lentRow rows) i)
+        (rows-more (rowsIn rows i) 1 (lentRow rows i)
+        ∙ ap (λ (k : ℕ). flatten (rowLines 1 (rowsIn rows i)) ++ rowLine k (lentRow rows i)) z))
         (omega arith)
 
     pub rows-all : (i steps r : ℕ) (o : List ℕ) → i ≤ steps → steps ≤ i
@@ -87,12 +89,12 @@ module _ (at : ℕ) (d : List ℕ) where
         ∙ ap (λ (j : ℕ). flatten (cellLines img 0 (framesUpTo ws k)) ++ cellLine img j (frameIn ws k)) z))
         (omega arith)
 
-    pub cells-all : (n k r : ℕ) (o : List ℕ) → n ≡ getD ws 0 0 → k ≤ 1024 → upTo 1024 n ≡ k
+    pub cells-all : (n k r : ℕ) (o : List ℕ) → n ≡ frameCount ws → k ≤ 1024 → atMost mostFrames n ≡ k
         → Wrote (128 * k) d at (flatten (cellLines img 0 (framesUpTo ws k))) r o
         → Wrote 131072 d at (flatten (cellLines img 0 (framesIn ws))) r o
     unfolding framesIn
     cells-all n k r o e l z w =
-        wrote-as (128 * k) 131072 at r _ _ d o w (ap (λ (j : ℕ). flatten (cellLines img 0 (framesUpTo ws j))) (sym z ∙ ap (upTo 1024) e)) (omega arith)
+        wrote-as (128 * k) 131072 at r _ _ d o w (ap (λ (j : ℕ). flatten (cellLines img 0 (framesUpTo ws j))) (sym z ∙ ap (atMost mostFrames) e)) (omega arith)
 
     -- ---- the fields of an object
 
@@ -102,21 +104,21 @@ module _ (at : ℕ) (d : List ℕ) where
       fields-none = none-wrote at d
 
       pub fields-turn : (i next r : ℕ) (e o : List ℕ) → Wrote (128 * i) d at (flatten (fieldLines img j 0 (fieldsUpTo ws j i))) next e
-          → Wrote 128 e next (fieldLine img j i (fieldIn ws j i)) r o
+          → Wrote 128 e next (fieldLine img j i (fieldWordIn ws j i)) r o
           → Wrote (128 * (i + 1)) d at (flatten (fieldLines img j 0 (fieldsUpTo ws j (i + 1)))) r o
       unfolding fieldsUpTo
       fields-turn i next r e o v w =
-          let l = listed-long (fieldIn ws j) i in
+          let l = listed-long (fieldWordIn ws j) i in
           let z : 0 + length (fieldsUpTo ws j i) ≡ i = omega arith in
           more-wrote (128 * i) 128 (128 * (i + 1)) at next r _ _ _ d e o v w
-          (rw (listed-more (fieldIn ws j) i)
-          (fields-more img (fieldsUpTo ws j i) j 0 (fieldIn ws j i)
-          ∙ ap (λ (k : ℕ). flatten (fieldLines img j 0 (fieldsUpTo ws j i)) ++ fieldLine img j k (fieldIn ws j i)) z))
+          (rw (listed-more (fieldWordIn ws j) i)
+          (fields-more img (fieldsUpTo ws j i) j 0 (fieldWordIn ws j i)
+          ∙ ap (λ (k : ℕ). flatten (fieldLines img j 0 (fieldsUpTo ws j i)) ++ fieldLine img j k (fieldWordIn ws j i)) z))
           (omega arith)
 
-      pub fields-all : (n i r : ℕ) (o : List ℕ) → i ≤ 16 → upTo 16 n ≡ i
+      pub fields-all : (n i r : ℕ) (o : List ℕ) → i ≤ 16 → atMost mostFields n ≡ i
           → Wrote (128 * i) d at (flatten (fieldLines img j 0 (fieldsUpTo ws j i))) r o
-          → Wrote 2048 d at (flatten (fieldLines img j 0 (fieldsUpTo ws j (upTo 16 n)))) r o
+          → Wrote 2048 d at (flatten (fieldLines img j 0 (fieldsUpTo ws j (atMost mostFields n)))) r o
       fields-all n i r o l z w =
           wrote-as (128 * i) 2048 at r _ _ d o w (ap (λ (k : ℕ). flatten (fieldLines img j 0 (fieldsUpTo ws j k))) (sym z)) (omega arith)
 
@@ -128,23 +130,23 @@ module _ (at : ℕ) (d : List ℕ) where
 
     pub objects-turn : (j F next r : ℕ) (e o : List ℕ) → F ≡ fieldsOf img
         → Wrote (2048 * j) d at (flatten (objectLines img 0 (objectsUpTo img ws j))) next e
-        → Wrote 2048 e next (flatten (fieldLines img j 0 (fieldsUpTo ws j (upTo 16 F)))) r o
+        → Wrote 2048 e next (flatten (fieldLines img j 0 (fieldsUpTo ws j (atMost mostFields F)))) r o
         → Wrote (2048 * (j + 1)) d at (flatten (objectLines img 0 (objectsUpTo img ws (j + 1)))) r o
     unfolding objectsUpTo objectIn
     objects-turn j F next r e o f v w =
         let l = listed-long (objectIn img ws) j in
         let z : 0 + length (objectsUpTo img ws j) ≡ j = omega arith in
-        let same : flatten (fieldLines img j 0 (fieldsUpTo ws j (upTo 16 F))) ≡ flatten (fieldLines img j 0 (objectIn img ws j)) =
-        ap (λ (k : ℕ). flatten (fieldLines img j 0 (fieldsUpTo ws j (upTo 16 k)))) f in
+        let same : flatten (fieldLines img j 0 (fieldsUpTo ws j (atMost mostFields F))) ≡ flatten (fieldLines img j 0 (objectIn img ws j .values)) =
+        ap (λ (k : ℕ). flatten (fieldLines img j 0 (fieldsUpTo ws j (atMost mostFields k)))) f in
         more-wrote (2048 * j) 2048 (2048 * (j + 1)) at next r _ _ _ d e o v (wrote-as 2048 2048 next r _ _ e o w same (omega arith))
         (rw (listed-more (objectIn img ws) j)
         (objects-more img (objectsUpTo img ws j) 0 (objectIn img ws j)
-        ∙ ap (λ (k : ℕ). flatten (objectLines img 0 (objectsUpTo img ws j)) ++ flatten (fieldLines img k 0 (objectIn img ws j))) z))
+        ∙ ap (λ (k : ℕ). flatten (objectLines img 0 (objectsUpTo img ws j)) ++ flatten (fieldLines img k 0 (objectIn img ws j .values))) z))
         (omega arith)
 
-    pub objects-all : (n j r : ℕ) (o : List ℕ) → n ≡ getD ws 1 0 → j ≤ 256 → upTo 256 n ≡ j
+    pub objects-all : (n j r : ℕ) (o : List ℕ) → n ≡ objectCount ws → j ≤ 256 → atMost mostObjects n ≡ j
         → Wrote (2048 * j) d at (flatten (objectLines img 0 (objectsUpTo img ws j))) r o
         → Wrote 524288 d at (flatten (objectLines img 0 (objectsIn img ws))) r o
     unfolding objectsIn
     objects-all n j r o e l z w =
-        wrote-as (2048 * j) 524288 at r _ _ d o w (ap (λ (k : ℕ). flatten (objectLines img 0 (objectsUpTo img ws k))) (sym z ∙ ap (upTo 256) e)) (omega arith)
+        wrote-as (2048 * j) 524288 at r _ _ d o w (ap (λ (k : ℕ). flatten (objectLines img 0 (objectsUpTo img ws k))) (sym z ∙ ap (atMost mostObjects) e)) (omega arith)

@@ -1,20 +1,23 @@
 // One entry as its line, from the start of a buffer of 128 bytes or more: a row of the lent rows, a frame's cell and a
 // field of an object from the words. The contracts say exactly which bytes; proofs/OfState says that they are those of
-// the state that lies in the words.
+// the state that is laid out in the words.
+use rules::VALUE_END;
 use store::frames;
 use store::objects;
-use store::values;
+use words::packing;
 ghost use Prim.Native.Nat.{_+_, _*_, _<_, _≤_};
 ghost use lib.ListN.{length};
 ghost use Rattle.report.specs.Listing.{rowLine, cellLine, fieldLine};
 ghost use Rattle.text.specs.Written.{Line};
-ghost use Rattle.show.specs.Entries.{rowIn, frameIn, fieldIn};
+ghost use Rattle.rules.specs.Image.{mostFields};
+ghost use Rattle.rules.specs.State.{mostObjects, size, framesAt};
+ghost use Rattle.show.specs.Entries.{lentRow, frameIn, fieldWordIn};
 
 // Row i, from 0, is that of step i + 1.
 pub fn row(out: &mut [u8], rows: &[u32], i: usize) -> usize
     requires { ⌜ 128 ≤ length (now out) ⌝ }
     requires { ⌜ 5 * i + 5 ≤ length (now rows) ⌝ }
-    ensures { λ r. ⌜ Line 128 (rowLine (i + 1) (rowIn (now (rows .entry)) i)) (now (out .entry)) r (now (out .exit)) ⌝ }
+    ensures { λ r. ⌜ Line 128 (rowLine (i + 1) (lentRow (now (rows .entry)) i)) (now (out .entry)) r (now (out .exit)) ⌝ }
 {
     let at = 5 * i;
     report::lines::row_line(
@@ -30,7 +33,7 @@ pub fn row(out: &mut [u8], rows: &[u32], i: usize) -> usize
 
 pub fn cell(out: &mut [u8], script: &[u8], ws: &[u64], k: u32) -> usize
     requires { ⌜ 128 ≤ length (now out) ⌝ }
-    requires { ⌜ 3 + k < length (now ws) ⌝ }
+    requires { ⌜ framesAt + k < length (now ws) ⌝ }
     ensures { λ r. ⌜ Line 128 (cellLine (now (script .entry)) k (frameIn (now (ws .entry)) k)) (now (out .entry)) r (now (out .exit)) ⌝ }
 {
     let f = frames::frame_at(ws, k);
@@ -40,11 +43,11 @@ pub fn cell(out: &mut [u8], script: &[u8], ws: &[u64], k: u32) -> usize
 // Object o, the field at position i from 0; a value has 35 bits.
 pub fn field(out: &mut [u8], script: &[u8], ws: &[u64], o: u32, i: u32) -> usize
     requires { ⌜ 128 ≤ length (now out) ⌝ }
-    requires { ⌜ (o < 256) × (i < 16) ⌝ }
-    requires { ⌜ 5378 ≤ length (now ws) ⌝ }
-    ensures { λ r. ⌜ Line 128 (fieldLine (now (script .entry)) o i (fieldIn (now (ws .entry)) o i)) (now (out .entry)) r (now (out .exit)) ⌝ }
+    requires { ⌜ (o < mostObjects) × (i < mostFields) ⌝ }
+    requires { ⌜ size ≤ length (now ws) ⌝ }
+    ensures { λ r. ⌜ Line 128 (fieldLine (now (script .entry)) o i (fieldWordIn (now (ws .entry)) o i)) (now (out .entry)) r (now (out .exit)) ⌝ }
 {
     let at = objects::field_place(o, i);
-    let v = values::value_of(ws[at] % 34359738368);
+    let v = packing::value_of(ws[at] % VALUE_END);
     report::lines::field_line(out, script, o, i, v)
 }

@@ -9,6 +9,7 @@ use rules::End;
 ghost use Prim.Native.Nat.{_+_, _*_, _≤_};
 ghost use lib.ListN.{length};
 ghost use Rattle.text.specs.Written.{Line};
+ghost use Rattle.rules.specs.State.{size};
 ghost use Rattle.show.specs.Entries.{runText};
 
 // The text of a run of an accepted script: the header, a row for each step, the end, at most 1,024 cells, at most 256
@@ -23,7 +24,7 @@ pub fn run(
 ) -> usize
     requires { ⌜ 128 * (steps + 5122) ≤ length (now out) ⌝ }
     requires { ⌜ 10 ≤ length (now script) ⌝ }
-    requires { ⌜ 5378 ≤ length (now workspace) ⌝ }
+    requires { ⌜ size ≤ length (now workspace) ⌝ }
     requires { ⌜ 5 * steps ≤ length (now rows) ⌝ }
     ensures { λ r. ⌜ Line (128 * (steps + 5122)) (runText (now (script .entry)) (now (workspace .entry)) (now (rows .entry)) end steps) (now (out .entry)) r (now (out .exit)) ⌝ }
 {

@@ -7,12 +7,14 @@ ghost use Prim.Native.Nat.{_+_, _*_, _<_, _≤_};
 ghost use lib.ListN.{length};
 ghost use Rattle.report.specs.Listing.{rowLine, rowLines, endLine, cellLine, cellLines, fieldLine, fieldLines, objectLines};
 ghost use Rattle.text.specs.Written.{Wrote};
-ghost use Rattle.show.specs.Entries.{rowIn, rowsIn, frameIn, framesIn, fieldIn, fieldsUpTo, objectsIn, upTo};
+ghost use Rattle.rules.specs.Image.{mostFields};
+ghost use Rattle.rules.specs.State.{mostObjects, size, framesAt};
+ghost use Rattle.show.specs.Entries.{lentRow, rowsIn, frameIn, framesIn, fieldWordIn, fieldsUpTo, objectsIn, atMost};
 
 fn put_row(out: &mut [u8], at: usize, rows: &[u32], i: usize) -> usize
     requires { ⌜ at + 128 ≤ length (now out) ⌝ }
     requires { ⌜ 5 * i + 5 ≤ length (now rows) ⌝ }
-    ensures { λ r. ⌜ Wrote 128 (now (out .entry)) at (rowLine (i + 1) (rowIn (now (rows .entry)) i)) r (now (out .exit)) ⌝ }
+    ensures { λ r. ⌜ Wrote 128 (now (out .entry)) at (rowLine (i + 1) (lentRow (now (rows .entry)) i)) r (now (out .exit)) ⌝ }
 {
     let n = entries::row(&mut out[at..], rows, i);
     at + n
@@ -43,7 +45,7 @@ pub fn put_end(out: &mut [u8], at: usize, e: End, steps: usize) -> usize
 
 fn put_cell(out: &mut [u8], at: usize, script: &[u8], ws: &[u64], k: u32) -> usize
     requires { ⌜ at + 128 ≤ length (now out) ⌝ }
-    requires { ⌜ 3 + k < length (now ws) ⌝ }
+    requires { ⌜ framesAt + k < length (now ws) ⌝ }
     ensures { λ r. ⌜ Wrote 128 (now (out .entry)) at (cellLine (now (script .entry)) k (frameIn (now (ws .entry)) k)) r (now (out .exit)) ⌝ }
 {
     let n = entries::cell(&mut out[at..], script, ws, k);
@@ -53,7 +55,7 @@ fn put_cell(out: &mut [u8], at: usize, script: &[u8], ws: &[u64], k: u32) -> usi
 // In frame order.
 pub fn put_cells(out: &mut [u8], at: usize, script: &[u8], ws: &[u64]) -> usize
     requires { ⌜ at + 131072 ≤ length (now out) ⌝ }
-    requires { ⌜ 5378 ≤ length (now ws) ⌝ }
+    requires { ⌜ size ≤ length (now ws) ⌝ }
     ensures { λ r. ⌜ Wrote 131072 (now (out .entry)) at (flatten (cellLines (now (script .entry)) 0 (framesIn (now (ws .entry))))) r (now (out .exit)) ⌝ }
 {
     let count = store::frames::frame_count(ws);
@@ -68,9 +70,9 @@ pub fn put_cells(out: &mut [u8], at: usize, script: &[u8], ws: &[u64]) -> usize
 
 fn put_field(out: &mut [u8], at: usize, script: &[u8], ws: &[u64], o: u32, i: u32) -> usize
     requires { ⌜ at + 128 ≤ length (now out) ⌝ }
-    requires { ⌜ (o < 256) × (i < 16) ⌝ }
-    requires { ⌜ 5378 ≤ length (now ws) ⌝ }
-    ensures { λ r. ⌜ Wrote 128 (now (out .entry)) at (fieldLine (now (script .entry)) o i (fieldIn (now (ws .entry)) o i)) r (now (out .exit)) ⌝ }
+    requires { ⌜ (o < mostObjects) × (i < mostFields) ⌝ }
+    requires { ⌜ size ≤ length (now ws) ⌝ }
+    ensures { λ r. ⌜ Wrote 128 (now (out .entry)) at (fieldLine (now (script .entry)) o i (fieldWordIn (now (ws .entry)) o i)) r (now (out .exit)) ⌝ }
 {
     let n = entries::field(&mut out[at..], script, ws, o, i);
     at + n
@@ -79,9 +81,9 @@ fn put_field(out: &mut [u8], at: usize, script: &[u8], ws: &[u64], o: u32, i: u3
 // The fields of object o, in order.
 fn put_object(out: &mut [u8], at: usize, script: &[u8], ws: &[u64], fields: usize, o: u32) -> usize
     requires { ⌜ at + 2048 ≤ length (now out) ⌝ }
-    requires { ⌜ o < 256 ⌝ }
-    requires { ⌜ 5378 ≤ length (now ws) ⌝ }
-    ensures { λ r. ⌜ Wrote 2048 (now (out .entry)) at (flatten (fieldLines (now (script .entry)) o 0 (fieldsUpTo (now (ws .entry)) o (upTo 16 fields)))) r (now (out .exit)) ⌝ }
+    requires { ⌜ o < mostObjects ⌝ }
+    requires { ⌜ size ≤ length (now ws) ⌝ }
+    ensures { λ r. ⌜ Wrote 2048 (now (out .entry)) at (flatten (fieldLines (now (script .entry)) o 0 (fieldsUpTo (now (ws .entry)) o (atMost mostFields fields)))) r (now (out .exit)) ⌝ }
 {
     let mut next = at;
     let mut i: u32 = 0;
@@ -96,7 +98,7 @@ fn put_object(out: &mut [u8], at: usize, script: &[u8], ws: &[u64], fields: usiz
 pub fn put_objects(out: &mut [u8], at: usize, script: &[u8], ws: &[u64]) -> usize
     requires { ⌜ at + 524288 ≤ length (now out) ⌝ }
     requires { ⌜ 10 ≤ length (now script) ⌝ }
-    requires { ⌜ 5378 ≤ length (now ws) ⌝ }
+    requires { ⌜ size ≤ length (now ws) ⌝ }
     ensures { λ r. ⌜ Wrote 524288 (now (out .entry)) at (flatten (objectLines (now (script .entry)) 0 (objectsIn (now (script .entry)) (now (ws .entry))))) r (now (out .exit)) ⌝ }
 {
     let fields = image::fields(script);

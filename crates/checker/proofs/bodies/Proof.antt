@@ -1,7 +1,7 @@
 -- `checker::bodies` meets its contract.
 -- Assumes nothing.
 use Rattle.checklaws.specs.Rest.{bodiesSay}
-use Rattle.checklaws.proofs.Whole.{goes-on, stops}
+use Rattle.checklaws.proofs.Whole.{wholes}
 use borrow.Author.Needs.{needs}
 use Rattle.checker.proofs.bodies.Statement.{statement}
 use Rattle.checker.proofs.bodies.Tie as tie
@@ -20,11 +20,11 @@ enum-known-v c = search needs
 
 returns : tie.Need-returns
 unfolding bodiesSay
-returns c = goes-on _ _ _ _ (c .before .before .before .codes .ensures) (c .before .enum-told .given .1) (c .nodes-on .ensures)
+returns c = λ visible h. let k = c .nodes-on .ensures visible h in search wholes
 
 returns-2 : tie.Need-returns-2
 unfolding bodiesSay
-returns-2 c = stops _ _ _ _ _ (c .before .before .before .codes .ensures) (c .before .v .given .1)
+returns-2 c = λ visible h. search wholes
 
 pub bodies-spec : {M : Type 1} → statement M
 bodies-spec =

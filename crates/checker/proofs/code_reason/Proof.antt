@@ -1,6 +1,6 @@
 -- `checker::code_reason` meets its contract.
 -- Assumes nothing.
-use Rattle.checklaws.proofs.Words.{code-zero, code-first, code-low, code-above}
+use Rattle.checklaws.proofs.Words.{coding}
 use borrow.Author.Needs.{needs}
 use Rattle.checker.proofs.code_reason.Statement.{statement}
 use Rattle.checker.proofs.code_reason.Tie as tie
@@ -9,10 +9,10 @@ code-requires : tie.Need-code-requires
 code-requires c κs = search needs
 
 returns : tie.Need-returns
-returns c = code-zero _ _ _ (c .before .code .ensures .0) (c .if1 .taken)
+returns c = search coding
 
 returns-2 : tie.Need-returns-2
-returns-2 c = code-first _ _ _ (c .before .before .code .ensures .0) (c .before .if1 .left) (c .if2 .taken)
+returns-2 c = search coding
 
 sub-code : tie.Need-sub-code
 sub-code c = search needs
@@ -21,10 +21,10 @@ code-requires-2 : tie.Need-code-requires-2
 code-requires-2 c κs = search needs
 
 returns-3 : tie.Need-returns-3
-returns-3 c = code-low _ _ _ _ (c .before .before .before .before .code .ensures .0) (c .before .before .before .if1 .left) (c .before .before .if2 .left) (c .before .code2 .ensures .0) (c .if3 .taken)
+returns-3 c = search coding
 
 returns-4 : tie.Need-returns-4
-returns-4 c = code-above _ _ _ _ (c .before .before .before .before .code .ensures .0) (c .before .before .before .if1 .left) (c .before .before .if2 .left) (c .before .code2 .ensures .0) (c .if3 .left)
+returns-4 c = search coding
 
 pub code-reason-spec : {M : Type 1} → statement M
 code-reason-spec =

@@ -6,8 +6,8 @@ use borrow.Author.Needs.{needs}
 use Rattle.image.proofs.read.Statement.{statement}
 use Rattle.image.proofs.read.Tie as tie
 
-start-requires : tie.Need-start-requires
-start-requires c κs = search needs
+nodes-at-requires : tie.Need-nodes-at-requires
+nodes-at-requires c κs = search needs
 
 part-requires : tie.Need-part-requires
 part-requires c κs = search needs
@@ -31,4 +31,4 @@ returns c =
 pub read-spec : {M : Type 1} → statement M
 read-spec =
     tie.close
-    (tie.spec start-requires part-requires part-requires-2 part-requires-3 part-requires-4 returns)
+    (tie.spec nodes-at-requires part-requires part-requires-2 part-requires-3 part-requires-4 returns)

@@ -1,91 +1,42 @@
 -- `namecheck::grown` meets its contract.
 -- Assumes nothing.
-use Rattle.image.specs.declared.Operand.{Operand}
-use Rattle.image.specs.Tags.{roleIs}
+use Prim.Native.Nat.{ℕ}
+use mathlib.Core.List.{[], _∷_}
+use mathlib.Core.Path.{_≡_, refl, subst}
+use types.Run.{OneOf, miss}
+use denote.Enum.Declared.{tagOf}
+use Rattle.rules.proofs.Role.{the-type}
+use Rattle.rules.specs.declared.Role.{Role}
+use Rattle.rules.specs.declared.Role.the-variants.{Unused, Index, Half, Uses, Binds, Child}
+use Rattle.rules.specs.Scope.{Names}
 use Rattle.checklaws.specs.Bits.{NameFits}
 use Rattle.rules.proofs.StrayRows.{growWord}
-use mathlib.Core.Path.{subst}
 use borrow.Author.Needs.{needs}
 use Rattle.namecheck.proofs.grown.Statement.{statement}
 use Rattle.namecheck.proofs.grown.Tie as tie
 
+-- the last arm: every role but `Binds`
+other : (visible : Names) (p : Role) (w : ℕ) → OneOf (0 ∷ 1 ∷ 2 ∷ 3 ∷ 5 ∷ []) (tagOf the-type p) → growWord visible p w ≡ visible
+unfolding growWord
+other visible Unused w h = refl
+other visible Index w h = refl
+other visible Half w h = refl
+other visible Uses w h = refl
+other visible Binds w h = absurd (miss (0 ∷ 1 ∷ 2 ∷ 3 ∷ 5 ∷ []) 4 tt h)
+other visible (Child k) w h = refl
+
 enum-told : tie.Need-enum-told
 enum-told c = search needs
 
-enum-told-2 : tie.Need-enum-told-2
-enum-told-2 c = search needs
-
-enum-told-3 : tie.Need-enum-told-3
-enum-told-3 c = search needs
-
-enum-told-4 : tie.Need-enum-told-4
-enum-told-4 c = search needs
-
-enum-told-5 : tie.Need-enum-told-5
-enum-told-5 c = search needs
-
 also-requires : tie.Need-also-requires
-also-requires c κs = subst (λ (p : Operand). NameFits (roleIs p) (c .before .before .args .w)) (c .enum-told5 .given .1) (c .before .before .pre)
-
-enum-told-6 : tie.Need-enum-told-6
-enum-told-6 c = search needs
-
-enum-told-7 : tie.Need-enum-told-7
-enum-told-7 c = search needs
-
-enum-told-8 : tie.Need-enum-told-8
-enum-told-8 c = search needs
+also-requires c κs = subst (λ (p : Role). NameFits p (c .before .before .args .w)) (c .enum-told .given .1) (c .before .before .pre)
 
 returns : tie.Need-returns
 unfolding growWord
-returns c = λ visible h. rw (c .enum-told .given .1) h
+returns c = λ visible h. rw (c .before .enum-told .given .1) (c .also .ensures visible h)
 
 returns-2 : tie.Need-returns-2
-unfolding growWord
-returns-2 c = λ visible h. rw (c .enum-told2 .given .1) h
-
-returns-3 : tie.Need-returns-3
-unfolding growWord
-returns-3 c = λ visible h. rw (c .enum-told3 .given .1) h
-
-returns-4 : tie.Need-returns-4
-unfolding growWord
-returns-4 c = λ visible h. rw (c .enum-told4 .given .1) h
-
-returns-5 : tie.Need-returns-5
-unfolding growWord
-returns-5 c = λ visible h. rw (c .before .enum-told5 .given .1) (c .also .ensures visible h)
-
-returns-6 : tie.Need-returns-6
-unfolding growWord
-returns-6 c = λ visible h. rw (c .enum-told6 .given .1) h
-
-returns-7 : tie.Need-returns-7
-unfolding growWord
-returns-7 c = λ visible h. rw (c .enum-told7 .given .1) h
-
-returns-8 : tie.Need-returns-8
-unfolding growWord
-returns-8 c = λ visible h. rw (c .enum-told8 .given .1) h
+returns-2 c = λ visible h. rw (other visible (c .before .args .p) (c .before .args .w) (c .match .keys2)) h
 
 pub grown-spec : {M : Type 1} → statement M
-grown-spec =
-    tie.close
-    (tie.spec
-    enum-told
-    enum-told-2
-    enum-told-3
-    enum-told-4
-    enum-told-5
-    also-requires
-    enum-told-6
-    enum-told-7
-    enum-told-8
-    returns
-    returns-2
-    returns-3
-    returns-4
-    returns-5
-    returns-6
-    returns-7
-    returns-8)
+grown-spec = tie.close (tie.spec enum-told also-requires returns returns-2)

@@ -1,6 +1,6 @@
 -- `checker::nodes::blank_words` meets its contract.
 -- Assumes nothing.
-use Rattle.checklaws.proofs.Three.{first-fails, second-fails, third-says}
+use Rattle.checklaws.proofs.Three.{threes}
 use borrow.Author.Needs.{needs}
 use Rattle.checker.proofs.nodes.blank_words.Statement.{statement}
 use Rattle.checker.proofs.nodes.blank_words.Tie as tie
@@ -9,19 +9,19 @@ blank-word-requires : tie.Need-blank-word-requires
 blank-word-requires c κs = search needs
 
 returns : tie.Need-returns
-returns c = first-fails _ _ _ _ (c .before .blank-word .ensures) (c .if1 .taken)
+returns c = search threes
 
 blank-word-requires-2 : tie.Need-blank-word-requires-2
 blank-word-requires-2 c κs = search needs
 
 returns-2 : tie.Need-returns-2
-returns-2 c = second-fails _ _ _ _ (c .before .before .before .blank-word .ensures) (c .before .before .if1 .left) _ (c .before .blank-word2 .ensures) (c .if2 .taken)
+returns-2 c = search threes
 
 blank-word-requires-3 : tie.Need-blank-word-requires-3
 blank-word-requires-3 c κs = search needs
 
 returns-3 : tie.Need-returns-3
-returns-3 c = third-says _ _ _ _ (c .before .before .before .before .blank-word .ensures) (c .before .before .before .if1 .left) _ (c .before .before .blank-word2 .ensures) (c .before .if2 .left) _ (c .blank-word3 .ensures)
+returns-3 c = search threes
 
 pub blank-words-spec : {M : Type 1} → statement M
 blank-words-spec =

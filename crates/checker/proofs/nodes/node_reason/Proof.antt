@@ -1,8 +1,9 @@
 -- `checker::nodes::node_reason` meets its contract.
 -- Assumes nothing.
-use Rattle.image.specs.Tags.{rolesIs}
+use Rattle.image.specs.Tags.{rowIs}
 use mathlib.Core.Path.{ap, sym, _∙_}
 use Rattle.checklaws.proofs.Words.{node-none, node-some}
+use Rattle.namecheck.proofs.Shapes.{shapes}
 use borrow.Author.Needs.{needs}
 use Rattle.checker.proofs.nodes.node_reason.Statement.{statement}
 use Rattle.checker.proofs.nodes.node_reason.Tie as tie
@@ -23,14 +24,10 @@ words-reason-requires : tie.Need-words-reason-requires
 words-reason-requires c κs = search needs
 
 returns : tie.Need-returns
-returns c = node-none _ _ _ (c .before .before .before .read .ensures .is) (sym (c .before .before .operands .ensures) ∙ ap rolesIs (c .enum-told .given .1))
+returns c = node-none _ _ _ (c .before .before .before .read .ensures .is) (sym (c .before .before .operands .ensures) ∙ ap rowIs (c .enum-told .given .1))
 
 returns-2 : tie.Need-returns-2
-returns-2 c =
-    let c2 = c .before .before in
-    let c4 = c2 .before .before in
-    let c5 = c4 .before in
-    node-some _ _ _ (c5 .read .ensures .is) _ _ _ _ (sym (c4 .operands .ensures) ∙ ap rolesIs (c2 .shape .given .1)) (c .words-reason .ensures)
+returns-2 c = search (shapes, node-some)
 
 pub node-reason-spec : {M : Type 1} → statement M
 node-reason-spec =

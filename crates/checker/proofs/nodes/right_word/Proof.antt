@@ -1,9 +1,7 @@
 -- `checker::nodes::right_word` meets its contract.
 -- Assumes nothing.
-use mathlib.Core.Path.{ap, _∙_}
+use Rattle.rules.specs.Refusals.{suits}
 use Rattle.checklaws.proofs.Words.{child-right}
-use Rattle.rules.specs.Image.{anExp, aTest, aCmd}
-use Rattle.rules.specs.Refusals.{isKind, suits}
 use borrow.Author.Needs.{needs}
 use Rattle.checker.proofs.nodes.right_word.Statement.{statement}
 use Rattle.checker.proofs.nodes.right_word.Tie as tie
@@ -32,32 +30,14 @@ enum-told-5 c = search needs
 name-right-requires-2 : tie.Need-name-right-requires-2
 name-right-requires-2 c κs = search needs
 
-enum-told-6 : tie.Need-enum-told-6
-enum-told-6 c = search needs
+enum-known-p : tie.Need-enum-known-p
+enum-known-p c = search needs
 
 child-requires : tie.Need-child-requires
 child-requires c κs = search needs
 
-is-exp-requires : tie.Need-is-exp-requires
-is-exp-requires c κs = search needs
-
-enum-told-7 : tie.Need-enum-told-7
-enum-told-7 c = search needs
-
-child-requires-2 : tie.Need-child-requires-2
-child-requires-2 c κs = search needs
-
-is-test-requires : tie.Need-is-test-requires
-is-test-requires c κs = search needs
-
-enum-told-8 : tie.Need-enum-told-8
-enum-told-8 c = search needs
-
-child-requires-3 : tie.Need-child-requires-3
-child-requires-3 c κs = search needs
-
-is-cmd-requires : tie.Need-is-cmd-requires
-is-cmd-requires c κs = search needs
+is-kind-requires : tie.Need-is-kind-requires
+is-kind-requires c κs = search needs
 
 returns : tie.Need-returns
 unfolding suits
@@ -80,13 +60,7 @@ unfolding suits
 returns-5 c = rw (c .before .enum-told5 .given .1) (c .name-right2 .ensures)
 
 returns-6 : tie.Need-returns-6
-returns-6 c = rw (c .before .before .enum-told6 .given .1) (c .is-exp .ensures ∙ ap (isKind anExp) (c .before .child .ensures) ∙ child-right _ _ _ anExp)
-
-returns-7 : tie.Need-returns-7
-returns-7 c = rw (c .before .before .enum-told7 .given .1) (c .is-test .ensures ∙ ap (isKind aTest) (c .before .child2 .ensures) ∙ child-right _ _ _ aTest)
-
-returns-8 : tie.Need-returns-8
-returns-8 c = rw (c .before .before .enum-told8 .given .1) (c .is-cmd .ensures ∙ ap (isKind aCmd) (c .before .child3 .ensures) ∙ child-right _ _ _ aCmd)
+returns-6 c = search child-right
 
 pub right-word-spec : {M : Type 1} → statement M
 right-word-spec =
@@ -100,20 +74,12 @@ right-word-spec =
     name-right-requires
     enum-told-5
     name-right-requires-2
-    enum-told-6
+    enum-known-p
     child-requires
-    is-exp-requires
-    enum-told-7
-    child-requires-2
-    is-test-requires
-    enum-told-8
-    child-requires-3
-    is-cmd-requires
+    is-kind-requires
     returns
     returns-2
     returns-3
     returns-4
     returns-5
-    returns-6
-    returns-7
-    returns-8)
+    returns-6)

@@ -1,6 +1,6 @@
 -- `checker::nodes::words_reason` meets its contract.
 -- Assumes nothing.
-use Rattle.checklaws.proofs.Three.{not-blank, not-right, blank-and-right}
+use Rattle.checklaws.proofs.Three.{wording}
 use borrow.Author.Needs.{needs}
 use Rattle.checker.proofs.nodes.words_reason.Statement.{statement}
 use Rattle.checker.proofs.nodes.words_reason.Tie as tie
@@ -9,16 +9,16 @@ blank-words-requires : tie.Need-blank-words-requires
 blank-words-requires c κs = search needs
 
 returns : tie.Need-returns
-returns c = not-blank _ _ _ _ _ _ _ (c .before .blank-words .ensures) (c .if1 .taken)
+returns c = search wording
 
 right-words-requires : tie.Need-right-words-requires
 right-words-requires c κs = search needs
 
 returns-2 : tie.Need-returns-2
-returns-2 c = not-right _ _ _ _ _ _ _ (c .before .before .before .blank-words .ensures) (c .before .before .if1 .left) _ (c .before .right-words .ensures) (c .if2 .taken)
+returns-2 c = search wording
 
 returns-3 : tie.Need-returns-3
-returns-3 c = blank-and-right _ _ _ _ _ _ _ (c .before .before .before .blank-words .ensures) (c .before .before .if1 .left) _ (c .before .right-words .ensures) (c .if2 .left)
+returns-3 c = search wording
 
 pub words-reason-spec : {M : Type 1} → statement M
 words-reason-spec =

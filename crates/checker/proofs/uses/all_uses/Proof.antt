@@ -1,6 +1,5 @@
 -- `checker::uses::all_uses` meets its contract: either list has room for each node. Assumes nothing.
-use native.Mathlib.Omega.{arith}
-use Rattle.checklaws.proofs.Counting.{counts-none}
+use Rattle.checklaws.proofs.Counting.{counting}
 use borrow.Author.Needs.{needs}
 use Rattle.checker.proofs.uses.all_uses.Statement.{statement}
 use Rattle.checker.proofs.uses.all_uses.Tie as tie
@@ -12,9 +11,7 @@ slice-aggregate-uses-in : tie.Need-slice-aggregate-uses-in
 slice-aggregate-uses-in c = search needs
 
 uses-in-requires : tie.Need-uses-in-requires
-uses-in-requires c κs =
-    let c4 = c .before .before .before .before in
-    (c4 .pre, counts-none _ 256 (omega (arith, c .before .before .nodes .ensures .0)))
+uses-in-requires c κs = search counting
 
 returns : tie.Need-returns
 returns c = search needs
@@ -23,9 +20,7 @@ slice-aggregate-uses-in-2 : tie.Need-slice-aggregate-uses-in-2
 slice-aggregate-uses-in-2 c = search needs
 
 uses-in-requires-2 : tie.Need-uses-in-requires-2
-uses-in-requires-2 c κs =
-    let c4 = c .before .before .before .before in
-    (c4 .pre, counts-none _ 2048 (let z = c4 .pre .few-nodes in omega arith))
+uses-in-requires-2 c κs = search counting
 
 returns-2 : tie.Need-returns-2
 returns-2 c = search needs

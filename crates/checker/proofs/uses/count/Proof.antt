@@ -3,9 +3,11 @@
 use Rattle.checklaws.specs.Counts.{Counts}
 use Rattle.rules.specs.Image.{nodesOf}
 use Prim.Native.Nat.{_-_, _≤_}
-use mathlib.Core.Path.{_≡_, refl, _∙_}
+use mathlib.Core.Path.{_≡_}
 use lib.ListN.{length}
 use native.Mathlib.Omega.{arith}
+use borrow.Author.Needs.{needs}
+use Rattle.checklaws.proofs.Counting.{counting}
 use Rattle.checker.proofs.uses.count.Statement.{statement}
 use Rattle.checker.proofs.uses.count.Tie as tie
 
@@ -16,13 +18,13 @@ abbrev μ-loop : tie.MeasureT-loop
 μ-loop img t₀ m n₀ t n = m - n
 
 nodes-requires : tie.Need-nodes-requires Inv-loop μ-loop
-nodes-requires c κs = omega (arith, c .before .before .pre .0 .long)
+nodes-requires c κs = search needs
 
 loop-holds : tie.Need-loop-holds Inv-loop μ-loop
-loop-holds c = ((c .nodes .ensures .0, omega arith), c .before .before .before .pre .1, refl)
+loop-holds c = search needs
 
 count-node-requires : tie.Need-count-node-requires Inv-loop μ-loop
-count-node-requires c κs = (c .before .before .before .before .before .before .pre .0, (omega (arith, c .before .before .loop .inv .0 .0), c .before .before .loop .inv .1))
+count-node-requires c κs = search needs
 
 add-n : tie.Need-add-n Inv-loop μ-loop
 add-n c = omega arith
@@ -31,13 +33,13 @@ loop-less : tie.Need-loop-less Inv-loop μ-loop
 loop-less c = omega arith
 
 loop-again : tie.Need-loop-again Inv-loop μ-loop
-loop-again c = ((c .before .before .before .before .before .loop .inv .0 .0, omega arith), c .before .before .count-node .ensures, c .before .before .count-node .kept .1 .0 ∙ c .before .before .before .before .before .loop .inv .2)
+loop-again c = search needs
 
 same-length : tie.Need-same-length Inv-loop μ-loop
-same-length c = c .before .loop .inv .2
+same-length c = search needs
 
 returns : tie.Need-returns Inv-loop μ-loop
-returns c = let e : c .before .loop .n ≡ nodesOf (c .before .before .before .before .before .args .img .now) = omega (arith, c .before .loop .inv .0 .0) in rw e at (c .before .loop .inv .1)
+returns c = search counting
 
 pub count-spec : {M : Type 1} → statement M
 count-spec =

@@ -1,5 +1,0 @@
-pub mod Upright
-pub mod Settling
-pub mod Deciding
-pub mod Applying
-pub mod Asking
