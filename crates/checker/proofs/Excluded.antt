@@ -13,7 +13,7 @@ use Rattle.rules.specs.Refusals.{check}
 use Rattle.checklaws.specs.Bits.{Shows}
 use Rattle.checklaws.proofs.BitLaws.{shows-none, shows-some}
 use Rattle.rules.proofs.Opens.{opens}
-use Rattle.rules.proofs.Cases.{skipAlone}
+use Rattle.cases.proofs.Cases.{skipAlone}
 
 -- what `check` of src/lib.rt ensures, of any function
 abbrev pub Meets : (ℕ → List ℕ → ℕ → ℕ → Verdict) → Type 0

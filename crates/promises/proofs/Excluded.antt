@@ -17,7 +17,7 @@ use Rattle.rules.specs.Run.{runScript, answered, answerOf}
 use Rattle.words.specs.Layout.{layout, flatAll, flat}
 use Rattle.words.specs.Lent.{wordsAfterRun, wordsAfter}
 use Rattle.rules.proofs.Opens.{opens}
-use Rattle.rules.proofs.Cases.{bytes34}
+use Rattle.cases.proofs.Cases.{bytes34}
 
 abbrev zeros : List ℕ
 zeros = replicate size 0

@@ -18,8 +18,8 @@ use Rattle.rules.specs.Step.{Machine, miniOO}
 use Rattle.rules.specs.Script.{scriptOf}
 use Rattle.rules.specs.Run.{runScript}
 use Rattle.rules.proofs.Opens.{opens}
-use Rattle.rules.proofs.Cases.{inAtom}
-use Rattle.rules.proofs.CasesControl.{nestedAtoms, rightAtom}
+use Rattle.cases.proofs.Cases.{inAtom}
+use Rattle.cases.proofs.CasesControl.{nestedAtoms, rightAtom}
 use Rattle.safety.specs.Reaches.{Reaches, stays, goes}
 use Rattle.safety.specs.Atoms.{Innermost, InPlace, Sealed, AtomMoves}
 use Rattle.safety.specs.Inside.{is-entered, in-left, in-entered}

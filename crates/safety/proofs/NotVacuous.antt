@@ -22,7 +22,7 @@ use Rattle.rules.specs.Control.{Control, command, followed, beside, entered, pa
 use Rattle.rules.specs.Step.{miniOO}
 use Rattle.rules.specs.Run.{Start, bare, runScript, run, begins}
 use Rattle.rules.proofs.Opens.{opens}
-use Rattle.rules.proofs.Cases.{recursive, inAtom, ownStacks}
+use Rattle.cases.proofs.Cases.{recursive, inAtom, ownStacks}
 use Rattle.safety.specs.Safe.{FitCmd, Real, RealFrame, RealObject, outermost, within, Given, Safe}
 use Rattle.safety.specs.Atoms.{Sealed, AtomMoves}
 use Rattle.safety.proofs.ReachesMoments.{run-moment}

@@ -1,0 +1,7 @@
+pub mod Cases
+pub mod CasesMore
+pub mod CasesControl
+pub mod CasesValues
+pub mod CasesLimits
+pub mod CasesLong
+pub mod CasesRefused
