@@ -271,23 +271,23 @@ module _ (img : List ℕ) (are-bytes : Bytes img) (words : ℕ) (accepts : Accep
   module _ (s : Store) (t : Control) (at : At img choices s (some t)) where
     -- "Every name the next step could need is found, on its own command's chain, in a cell that exists."
     pub needed-name-is-found : (i n : ℕ) (ch : Chain) (x : ℕ) → getElem? (movable t) i ≡ some (move n ch) → T (needs (scriptOf img .cmdAt n) x)
-        → Borne (s .frames) ch x
+        → Borne s ch x
     needed-name-is-found = Demand3.needed-name-is-found words img are-bytes is-accepted choices s t at
 
     -- .. and no other name is needed: in any chain that bears those, a rule makes the command's step, or says why it isn't made
     pub needed-names-suffice : (i n : ℕ) (ch : Chain) → getElem? (movable t) i ≡ some (move n ch)
-        → (dh : Chain) → ((x : ℕ) → T (needs (scriptOf img .cmdAt n) x) → Borne (s .frames) dh x)
+        → (dh : Chain) → ((x : ℕ) → T (needs (scriptOf img .cmdAt n) x) → Borne s dh x)
         → (out : Outcome Store) × Command (scriptOf img) s dh (scriptOf img .cmdAt n) out
     needed-names-suffice i n ch p dh borne =
         command-ruled (scriptOf img) s dh (scriptOf img .cmdAt n)
         (Demand3.needed-names-suffice words img are-bytes is-accepted choices s t at i n ch p dh borne)
 
     -- .. also for a command that waits
-    pub waiting-name-is-found : (n : ℕ) (ch : Chain) (x : ℕ) → Waits t n ch → T (needs (scriptOf img .cmdAt n) x) → Borne (s .frames) ch x
+    pub waiting-name-is-found : (n : ℕ) (ch : Chain) (x : ℕ) → Waits t n ch → T (needs (scriptOf img .cmdAt n) x) → Borne s ch x
     waiting-name-is-found = Demand3.waiting-name-is-found words img are-bytes is-accepted choices s t at
 
   -- the frame found is the newest of the chain that bears the name; it is there, and bears it
-  pub found-frame-is-newest : (s : Store) (ch : Chain) (x : ℕ) (b : Borne (s .frames) ch x)
+  pub found-frame-is-newest : (s : Store) (ch : Chain) (x : ℕ) (b : Borne s ch x)
       → Newest (s .frames) x ch (b .at) × ((f : Frame) × (frameAt s (b .at) ≡ some f) × (f .name ≡ x))
   found-frame-is-newest s ch x b = (
     Demand3.found-frame-is-newest words img are-bytes is-accepted choices s ch x b,
@@ -297,7 +297,7 @@ module _ (img : List ℕ) (are-bytes : Bytes img) (words : ℕ) (accepts : Accep
   module _ (s : Store) (o : Option Control) (at : At img choices s o) where
     -- .. and a name that the body of a procedure held needs is its formal, or is found on the procedure's own chain
     pub body-name-is-found : (n : ℕ) (ch : Chain) → HeldIn s (Proc n ch) → (y : ℕ) (c : Cmd) → scriptOf img .procAt n ≡ some (formal y c)
-        → (x : ℕ) → T (needs c x) → (y ≡ x) ⊎ Borne (s .frames) ch x
+        → (x : ℕ) → T (needs c x) → (y ≡ x) ⊎ Borne s ch x
     body-name-is-found = Demand3.body-name-is-found words img are-bytes is-accepted choices s o at
 
     -- "Every object and procedure held anywhere exists", and what is held is a value; anywhere is each cell and each field

@@ -25,6 +25,7 @@ use Rattle.rules.proofs.Opens.{opens}
 use Rattle.cases.proofs.Cases.{recursive, inAtom, ownStacks}
 use Rattle.safety.specs.Safe.{FitCmd, Real, RealFrame, RealObject, outermost, within, Given, Safe}
 use Rattle.safety.specs.Atoms.{Sealed, AtomMoves}
+use Rattle.safety.proofs.Chains.{bears-there}
 use Rattle.safety.proofs.ReachesMoments.{run-moment}
 use Rattle.safety.proofs.Demand3.{At, always-safe, only-the-entered-block-moves}
 
@@ -139,7 +140,10 @@ k-fits = (
 module _ (sc : Script) (s : Store) where
   -- a command whose chain is a frame that isn't there
   pub no-such-frame : (n k : ℕ) → framesUsed s ≤ k → Safe sc s (some (command n (From k))) → ⊥
-  no-such-frame n k h safe = let old : HasFrame s k = safe .control .placed .seen .chain .exists in omega arith
+  no-such-frame n k h safe =
+      let x = safe .control .placed .seen in
+      let old : HasFrame s k = bears-there s (From k) (x .names) (x .chain) in
+      omega arith
 
   -- a cell that holds an object past the count
   pub no-such-object : (o : Option Control) (k m : ℕ) (f : Frame)
@@ -184,7 +188,7 @@ unfolding oneFrame
 one-frame-given sc h =
     record {
       store = record { frames = frame-real sc h; objects = object-real sc; few-frames = omega arith; few-objects = omega arith };
-      chain = record { exists = omega arith; env = within (frame 0 Empty Null) refl outermost };
+      chain = within (frame 0 Empty Null) refl outermost;
     }
 
 -- `x = 1`, with no declaration

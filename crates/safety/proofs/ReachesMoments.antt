@@ -43,10 +43,10 @@ module _ (sc : Script) (st : Start Store) (given : Given sc st) (root : ℕ) (cs
       → (i n : ℕ) (ch : Chain) (x : ℕ)
       → getElem? (movable t) i ≡ some (move n ch)
       → T (needs (sc .cmdAt n) x)
-      → Borne (s .frames) ch x
+      → Borne s ch x
   needed-found s t y i n ch x p h =
       let safe : Safe sc s (some t) = moment-safe s (some t) y in
-      names-found sc (s .frames) n ch x (ready-at sc s t safe i n ch p .seen) h
+      names-found sc s n ch x (ready-at sc s t safe i n ch p .seen) h
 
   -- Every object and procedure held anywhere exists; and nothing is never held.
   pub held-real : (s : Store) (o : Option Control)

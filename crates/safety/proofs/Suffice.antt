@@ -22,16 +22,16 @@ use Rattle.safety.specs.Found.{Borne}
 use Rattle.safety.specs.Needs.{needsExp, needsTest, needs}
 use Rattle.safety.proofs.LinksNeeded.{Bear, first, second}
 use Rattle.safety.proofs.OpenedNeeds.{opened-moves}
-use Rattle.safety.proofs.Fine.{Any, Of, Stated, fine-bind, fine-there, fine-object, fine-field, fine-proc, fine-stored, fine-entry, fine-field-of, fine-find, eval-borne, test-borne}
+use Rattle.safety.proofs.Fine.{Any, Of, Stated, fine-bind, fine-there, fine-object, fine-field, fine-proc, fine-stored, fine-object-at, fine-field-of, fine-find, eval-borne, test-borne}
 
 module _ (sc : Script) (s : Store) (good : RealStore sc s) (visible : Names) (ch : Chain) where
   abbrev Held : Value → Type 0
   Held = RealIf sc (Stated sc) s
 
-  fine-exp : (e : Exp) → FitExp sc visible e → Bear (s .frames) ch (needsExp e) → Fine sc Held (eval s ch e)
+  fine-exp : (e : Exp) → FitExp sc visible e → Bear s ch (needsExp e) → Fine sc Held (eval s ch e)
   fine-exp e h b = eval-borne sc s (Stated sc) (λ n dh p. (_, p .is)) good ch visible (λ n y c p. (_, p .1)) e h b
 
-  fine-cond : (t : Test) → FitTest sc visible t → Bear (s .frames) ch (needsTest t) → Fine sc Any (test sc s ch t)
+  fine-cond : (t : Test) → FitTest sc visible t → Bear s ch (needsTest t) → Fine sc Any (test sc s ch t)
   fine-cond t h b =
       test-borne sc s (Stated sc) (λ n dh p. (_, p .is)) good ch visible (λ n y c p. (_, p .1)) (λ n dh p. p) t h b
 
@@ -41,29 +41,29 @@ module _ (sc : Script) (s : Store) (good : RealStore sc s) (visible : Names) (ch
       fine-bind sc Held Any (stored arg) _ (fine-stored sc s (Stated sc) arg h) λ v _.
       fine-bind sc Any Any (there (sc .procAt m)) _ (fine-there sc Any _ (p .0) (p .1) tt) λ q _. tt
 
-  fine-single : (c : Cmd) → T (single c) → FitCmd sc visible c → Bear (s .frames) ch (needs c) → Fine sc Any (exec sc s ch c)
+  fine-single : (c : Cmd) → T (single c) → FitCmd sc visible c → Bear s ch (needs c) → Fine sc Any (exec sc s ch c)
   unfolding exec single needs
   fine-single (noCmd n) t h b = h
   fine-single (var n x c) t h b = tt
   fine-single (call n a e) t h b =
-      fine-bind sc Held Any (eval s ch a) _ (fine-exp a (h .1) (first (s .frames) ch (needsExp a) (needsExp e) b)) λ v r.
+      fine-bind sc Held Any (eval s ch a) _ (fine-exp a (h .1) (first s ch (needsExp a) (needsExp e) b)) λ v r.
       fine-bind sc (Of (Stated sc)) Any (asProc (faultNo noProcedure) n v) _ (fine-proc sc s (Stated sc) noProcedure n (h .0 .0) v r) λ p q.
-      fine-calling (eval s ch e) p (fine-exp e (h .2) (second (s .frames) ch (needsExp a) (needsExp e) b)) q
+      fine-calling (eval s ch e) p (fine-exp e (h .2) (second s ch (needsExp a) (needsExp e) b)) q
   fine-single (malloc n x) t h b =
       fine-bind sc (λ k. HasFrame s k) Any (there (find (s .frames) x ch)) _ (fine-find sc s ch x (b x (eqb-refl x))) λ k _. tt
   fine-single (assign n x e) t h b =
-      fine-bind sc (λ k. HasFrame s k) Any (there (find (s .frames) x ch)) _ (fine-find sc s ch x (first (s .frames) ch (eqb x) (needsExp e) b x (eqb-refl x))) λ k _.
-      fine-bind sc Held Any (eval s ch e) _ (fine-exp e (h .2) (second (s .frames) ch (eqb x) (needsExp e) b)) λ v _. tt
+      fine-bind sc (λ k. HasFrame s k) Any (there (find (s .frames) x ch)) _ (fine-find sc s ch x (first s ch (eqb x) (needsExp e) b x (eqb-refl x))) λ k _.
+      fine-bind sc Held Any (eval s ch e) _ (fine-exp e (h .2) (second s ch (eqb x) (needsExp e) b)) λ v _. tt
   fine-single (assignField n a e c) t h b =
-      let both : Bear (s .frames) ch (λ x. needsExp a x || needsExp e x) = first (s .frames) ch (λ x. needsExp a x || needsExp e x) (needsExp c) b in
-      fine-bind sc Held Any (eval s ch a) _ (fine-exp a (h .1) (first (s .frames) ch (needsExp a) (needsExp e) both)) λ v p.
-      fine-bind sc Held Any (eval s ch e) _ (fine-exp e (h .2) (second (s .frames) ch (needsExp a) (needsExp e) both)) λ w q.
+      let both : Bear s ch (λ x. needsExp a x || needsExp e x) = first s ch (λ x. needsExp a x || needsExp e x) (needsExp c) b in
+      fine-bind sc Held Any (eval s ch a) _ (fine-exp a (h .1) (first s ch (needsExp a) (needsExp e) both)) λ v p.
+      fine-bind sc Held Any (eval s ch e) _ (fine-exp e (h .2) (second s ch (needsExp a) (needsExp e) both)) λ w q.
       fine-bind sc (λ o. HasObject s o) Any (asObject (faultNo noObject) n v) _ (fine-object sc s (Stated sc) noObject n (h .0 .0) v p) λ o l.
       fine-bind sc (λ f. (1 ≤ f) × (f ≤ sc .fields)) Any (asField (faultNo noField) n w) _ (fine-field sc s (Stated sc) noField n (h .0 .0) w q) λ f m.
       fine-bind sc Held Any (stored (eval s ch c)) _
-      (fine-stored sc s (Stated sc) (eval s ch c) (fine-exp c (h .3) (second (s .frames) ch (λ x. needsExp a x || needsExp e x) (needsExp c) b))) λ u _.
+      (fine-stored sc s (Stated sc) (eval s ch c) (fine-exp c (h .3) (second s ch (λ x. needsExp a x || needsExp e x) (needsExp c) b))) λ u _.
       fine-bind sc (RealObject sc s) Any (there (objectAt s o)) _
-      (fine-entry sc (RealObject sc s) (s .objects) o l (good .objects o)) λ obj fits.
+      (fine-object-at sc s good o l) λ obj fits.
       fine-bind sc Held Any (there (fieldOf obj f)) _ (fine-field-of sc s (Stated sc) (λ n dh p. (_, p .is)) obj f fits m) λ old _. tt
   fine-single (skip n) t h b = tt
   fine-single (seq n a c) t h b = absurd t
@@ -72,11 +72,11 @@ module _ (sc : Script) (s : Store) (good : RealStore sc s) (visible : Names) (ch
   fine-single (par n a c) t h b = absurd t
   fine-single (atom n c) t h b = tt
 
-  pub needed-names-suffice : (c : Cmd) → T (single c) → FitCmd sc visible c → ((x : ℕ) → T (needs c x) → Borne (s .frames) ch x) → exec sc s ch c ≡ stuck → ⊥
+  pub needed-names-suffice : (c : Cmd) → T (single c) → FitCmd sc visible c → ((x : ℕ) → T (needs c x) → Borne s ch x) → exec sc s ch c ≡ stuck → ⊥
   needed-names-suffice c t h b e = subst (Fine sc Any) e (fine-single c t h b)
 
   -- .. and for a sequence or parallel, when it is opened
-  pub opened-names-suffice : (c : Cmd) → FitCmd sc visible c → ((x : ℕ) → T (needs c x) → Borne (s .frames) ch x)
+  pub opened-names-suffice : (c : Cmd) → FitCmd sc visible c → ((x : ℕ) → T (needs c x) → Borne s ch x)
       → (i n : ℕ) (dh : Chain) → getElem? (movable (opened c ch)) i ≡ some (move n dh) → exec sc s dh (sc .cmdAt n) ≡ stuck → ⊥
   opened-names-suffice c h b i n dh p =
       let m = opened-moves sc visible ch c h i n dh p in
