@@ -288,7 +288,7 @@ module _ (img : List ℕ) (are-bytes : Bytes img) (words : ℕ) (accepts : Accep
 
   -- the frame found is the newest of the chain that bears the name; it is there, and bears it
   pub found-frame-is-newest : (s : Store) (ch : Chain) (x : ℕ) (b : Borne s ch x)
-      → Newest (s .frames) x ch (b .at) × ((f : Frame) × (frameAt s (b .at) ≡ some f) × (f .name ≡ x))
+      → Newest s x ch (b .at) × ((f : Frame) × (frameAt s (b .at) ≡ some f) × (f .name ≡ x))
   found-frame-is-newest s ch x b = (
     Demand3.found-frame-is-newest words img are-bytes is-accepted choices s ch x b,
     Demand3.found-frame-is-there words img are-bytes is-accepted choices s ch x b,
