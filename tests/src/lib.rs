@@ -1,11 +1,13 @@
-//! A second opinion on the proved interpreter: another interpreter of MiniOO scripts, written from documents 01 and 002
-//! alone, and the means to compare the two on scripts by hand, generated, damaged and arbitrary.
+//! A second and a third opinion on the proved interpreter: two other interpreters of MiniOO scripts, written from documents 01
+//! and 002 alone, one to be seen to be right and one to be fast, and the means to compare them all on scripts by hand,
+//! generated, damaged and arbitrary.
 //!
-//! Reading order: `subject` (what is compared), `image`, `encode` and `parse` (scripts), `independent` (the other
-//! interpreter), `generate`, `compare` and `shrink`; `readback` (the state in the words of a run).
+//! Reading order: `subject` (what is compared), `image`, `encode` and `parse` (scripts), `independent` (the reference),
+//! `flat` (the measure of speed), `generate`, `compare` and `shrink`; `readback` (the state in the words of a run).
 
 pub mod compare;
 pub mod encode;
+pub mod flat;
 pub mod generate;
 pub mod image;
 pub mod independent;

@@ -49,10 +49,11 @@ pub trait Subject {
     fn trace(&self, script: &[u8], choices: &[u8], workspace: &mut [u64], rows: &mut [u32]) -> Answer;
 }
 
-/// Everyone who must give the documents' answers: the independent interpreter, and the library where it is linked.
+/// Everyone who must give the documents' answers: the independent interpreter, the flat one, and the library where it is linked.
 pub fn subjects() -> Vec<(&'static str, Box<dyn Subject>)> {
     vec![
         ("independent", Box::new(crate::independent::Independent::right())),
+        ("flat", Box::new(crate::flat::Flat)),
         #[cfg(feature = "library")]
         ("library", Box::new(crate::library::Library)),
     ]

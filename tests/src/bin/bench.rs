@@ -1,9 +1,13 @@
-//! Nanoseconds a step of each subject on the same scripts in one run, and the ratio to the independent interpreter; how they
-//! grow with the script; the check a node; a whole short run with its start-up, beside the mere clearing of the workspace.
+//! Nanoseconds a step of each subject on the same scripts in one run, and the library's ratio to the independent interpreter and
+//! to the flat one, which is the measure; how they grow with the script; the check a node; a whole short run with its start-up,
+//! beside the mere clearing of the workspace.
 //!
 //! A step's time is that of a run less that of the same run without choices, so that the check and the clearing of the
 //! workspace don't count. Each time is the least of many short rounds, and what is compared takes turns, round by round:
-//! what slows the machine down for a while slows all of it. Without the feature `library` one column is missing.
+//! what slows the machine down for a while slows all of it. Without the feature `library` its columns are missing.
+//!
+//! The flat interpreter is fast enough to be the measure as long as it takes about a seventh of the independent one's time on
+//! the counting loop, or less: the last column.
 
 use flagcopper_tests::encode::*;
 use flagcopper_tests::image::Image;
@@ -11,6 +15,10 @@ use flagcopper_tests::parse::script;
 use flagcopper_tests::subject::{subjects, Subject, SIZE};
 use std::hint::black_box;
 use std::time::{Duration, Instant};
+
+/// Whose time is divided by whose, and how the column is called.
+const RATIOS: [(&str, &str, &str); 3] =
+    [("library", "independent", "lib/ind"), ("library", "flat", "lib/flat"), ("flat", "independent", "flat/ind")];
 
 const ROUNDS: usize = 150;
 const ROUND: Duration = Duration::from_millis(2);
@@ -50,14 +58,25 @@ struct Bench {
 }
 
 impl Bench {
-    /// One line: the time of each subject for each of `count` things, and the ratio of the last to the first.
-    fn line(&self, what: &str, count: usize, times: &[f64]) {
-        print!("{what:<44}{count:>7}");
-        times.iter().for_each(|time| print!("{:>14.1}", time / count as f64));
-        if let [first, .., last] = times {
-            print!("{:>9.3}", last / first);
-        }
+    fn header(&self) {
+        print!("{:<44}{:>6}", "nanoseconds a step, or each", "count");
+        self.subjects.iter().for_each(|(name, _)| print!("{name:>13}"));
+        self.ratios().for_each(|(_, _, title)| print!("{title:>10}"));
         println!();
+    }
+
+    /// One line: the time of each subject for each of `count` things, and the ratios.
+    fn line(&self, what: &str, count: usize, times: &[f64]) {
+        print!("{what:<44}{count:>6}");
+        times.iter().for_each(|time| print!("{:>13.1}", time / count as f64));
+        self.ratios().for_each(|(over, under, _)| print!("{:>10.3}", times[over] / times[under]));
+        println!();
+    }
+
+    /// The ratios between those who are there: the places of their times, and the title.
+    fn ratios(&self) -> impl Iterator<Item = (usize, usize, &'static str)> + '_ {
+        let place = |name: &str| self.subjects.iter().position(|(known, _)| *known == name);
+        RATIOS.iter().filter_map(move |(over, under, title)| Some((place(over)?, place(under)?, *title)))
     }
 
     /// The time of a whole run of each subject, then that of the same without choices.
@@ -96,18 +115,21 @@ impl Bench {
 
     /// A run of one step beside the mere clearing of the workspace and that step.
     fn shortest(&mut self) {
-        let (image, choices) = (script("skip"), [0]);
-        self.whole("a whole run of one step", &image, &choices);
-        let bytes = image.bytes();
-        let (Some((_, last)), workspace) = (self.subjects.last(), &mut self.workspace) else { return };
-        let times = least(3, |which| match which {
-            0 => black_box(&mut workspace[..SIZE]).fill(0),
-            1 => seen(last.run(&bytes, &choices, workspace)),
-            _ => seen(last.run(&bytes, &[], workspace)),
+        let bytes = script("skip").bytes();
+        let (subjects, workspace) = (&self.subjects, &mut self.workspace);
+        let count = subjects.len();
+        let times = least(2 * count + 1, |which| match which / count {
+            0 => seen(subjects[which].1.run(&bytes, &[0], workspace)),
+            1 => seen(subjects[which - count].1.run(&bytes, &[], workspace)),
+            _ => black_box(&mut workspace[..SIZE]).fill(0),
         });
-        let [clearing, run, start] = times[..] else { return };
-        println!("{:<51}{clearing:>28.1}", "clearing the workspace");
-        println!("{:<51}{:>37.3}", "a run of one step, over clearing and the step", run / (clearing + run - start));
+        let clearing = times[2 * count];
+        let over = |which: usize| times[which] / (clearing + times[which] - times[count + which]);
+        self.line("a whole run of one step", 1, &times[..count]);
+        println!("{:<50}{clearing:>13.1}", "clearing the workspace");
+        print!("{:<50}", "a run of one step, over clearing and the step");
+        (0..count).for_each(|which| print!("{:>13.3}", over(which)));
+        println!();
     }
 }
 
@@ -146,7 +168,7 @@ fn migration() -> Image {
 /// How a step's time grows: with the width of control, the depth of atoms, the length of a chain and of bodies compared.
 fn growing(bench: &mut Bench) {
     let endless = || repeat(constant(true), skip());
-    for width in [1, 4, 16, 64, 85] {
+    for width in [1, 4, 16, 60, 64, 85] {
         let image = side_by_side(width, &endless()).image(&[], 0);
         bench.steps(&format!("parallels, {width} wide, the first moves"), &image, &[0; 2_000]);
         bench.steps(&format!("parallels, {width} wide, the last moves"), &image, &[width as u8 - 1; 2_000]);
@@ -170,9 +192,7 @@ fn growing(bench: &mut Bench) {
 
 fn main() {
     let mut bench = Bench { subjects: subjects(), workspace: vec![0; SIZE] };
-    print!("{:<44}{:>7}", "nanoseconds a step, or each", "count");
-    bench.subjects.iter().for_each(|(name, _)| print!("{name:>14}"));
-    println!("{}", if bench.subjects.len() > 1 { "    ratio" } else { "" });
+    bench.header();
     let zeros = [0; 5_000];
     bench.steps("calls", &script("var p; {p = proc y: if y < 1 skip else p(y - 1); p(1000)}"), &zeros);
     bench.steps("a counting loop", &script("var x; {x = 1000; while 0 < x x = x - 1}"), &zeros);

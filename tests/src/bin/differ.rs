@@ -1,7 +1,8 @@
 //! Compares a subject with the independent interpreter on generated cases, and saves the first difference, shrunk.
 //!
-//! `differ --cases N --seed S [--from K] [--against WRONG]`, or `differ --replay FILE` for a saved case. The subject is the
-//! library, or with `--against` the independent interpreter with a wrong turn. It ends with 1 when a difference is found.
+//! `differ --cases N --seed S [--from K] [--against NAME]`, or `differ --replay FILE` for a saved case. The subject is the
+//! library, or with `--against` the one of that name, `flat` or the independent interpreter with a wrong turn. It ends with 1
+//! when a difference is found.
 
 use flagcopper_tests::compare::{difference, search};
 use flagcopper_tests::independent::{Independent, Wrong};
@@ -23,19 +24,16 @@ fn number(name: &str, default: u64) -> u64 {
 }
 
 fn subject() -> (String, Box<dyn Subject>) {
-    match option("--against") {
-        Some(named) => {
-            let known = Wrong::ALL.into_iter().find(|wrong| format!("{wrong:?}") == named);
-            let wrong = known.unwrap_or_else(|| panic!("the wrong turns are {:?}", Wrong::ALL));
-            (named, Box::new(Independent::wrong(wrong)))
-        }
-        None => {
-            let library = subjects().into_iter().find(|(name, _)| *name == "library");
-            let (name, subject) =
-                library.expect("nothing to compare: build with the feature library, or name a wrong turn");
-            (name.to_string(), subject)
-        }
-    }
+    let name = option("--against").unwrap_or_else(|| "library".to_string());
+    let right = subjects().into_iter().find(|(known, _)| *known == name).map(|(_, subject)| subject);
+    let wrong = || {
+        let turn = Wrong::ALL.into_iter().find(|wrong| format!("{wrong:?}") == name)?;
+        Some(Box::new(Independent::wrong(turn)) as Box<dyn Subject>)
+    };
+    let subject = right.or_else(wrong).unwrap_or_else(|| {
+        panic!("no {name}: there are flat, library with the feature library, and the wrong turns {:?}", Wrong::ALL)
+    });
+    (name, subject)
 }
 
 fn main() -> ExitCode {
