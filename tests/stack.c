@@ -27,15 +27,21 @@ enum {
     INTEGER = 2,
     DIFFERENCE = 3,
     NULL_VALUE = 4,
+    REFERENCE = 5,
     SELECTION = 6,
     PROC = 7,
     EQUAL = 18,
     VAR = 32,
+    CALL = 33,
     ASSIGN = 35,
     SKIP = 37,
     SEQUENCE = 38,
+    WHILE = 39,
     IF = 40
 };
+
+/* Every script has these two names. */
+enum { Y = 0, Z = 1, NAMES = 2 };
 
 /* Adds a node, children first, and answers its number. */
 static unsigned node(unsigned tag, unsigned a, unsigned b, unsigned c) {
@@ -48,9 +54,9 @@ static unsigned node(unsigned tag, unsigned a, unsigned b, unsigned c) {
 
 static void begin(void) { nodes = 0; }
 
-/* The contents of a script without fields and with one name; the last node is the root. */
+/* The contents of a script without fields; the last node is the root. */
 static void end(void) {
-    const unsigned contents[5] = {10, 0, 10, nodes, 1};
+    const unsigned contents[5] = {10, 0, 10, nodes, NAMES};
     for (size_t i = 0; i < 5; i++) {
         put(2 * i, contents[i]);
     }
@@ -61,7 +67,7 @@ static void end(void) {
 static unsigned declarations(unsigned depth) {
     unsigned inner = node(SKIP, 0, 0, 0);
     while (depth-- > 0) {
-        inner = node(VAR, 0, inner, 0);
+        inner = node(VAR, Y, inner, 0);
     }
     return inner;
 }
@@ -112,11 +118,11 @@ static void report_run(const char *what) {
            (unsigned)told.refusal, (unsigned)told.end, (unsigned)told.number, told.steps);
 }
 
-/* The name's cell is assigned an expression of pairs. */
+/* A name's cell is assigned an expression of pairs. */
 static void run_of_expression(const char *what, unsigned tag, unsigned leaf, int left) {
     begin();
     unsigned value = nested(tag, leaf, left, (NODES - 3) / 2);
-    node(VAR, 0, node(ASSIGN, 0, value, 0), 0);
+    node(VAR, Y, node(ASSIGN, Y, value, 0), 0);
     end();
     report_run(what);
 }
@@ -124,13 +130,28 @@ static void run_of_expression(const char *what, unsigned tag, unsigned leaf, int
 /* Two procedures with the same deep body are compared. */
 static void run_of_comparison(void) {
     begin();
-    unsigned one = node(PROC, 0, declarations((NODES - 8) / 2), 0);
-    unsigned two = node(PROC, 0, declarations((NODES - 8) / 2), 0);
+    unsigned one = node(PROC, Y, declarations((NODES - 8) / 2), 0);
+    unsigned two = node(PROC, Y, declarations((NODES - 8) / 2), 0);
     unsigned test = node(EQUAL, one, two, 0);
     unsigned yes = node(SKIP, 0, 0, 0), no = node(SKIP, 0, 0, 0);
     node(IF, test, yes, no);
     end();
     report_run("a comparison of procedures");
+}
+
+/* A procedure with the deepest body that fits is compared with itself, in the second step:
+ *     (proc y: while y == y skip)(proc z: var y .. var y skip)
+ * Nine nodes aren't declarations: two of `y`, the test, a `skip`, `while`, two of `proc`, the inner `skip`, the call. */
+static void run_of_itself(void) {
+    begin();
+    unsigned left = node(REFERENCE, Y, 0, 0), right = node(REFERENCE, Y, 0, 0);
+    unsigned test = node(EQUAL, left, right, 0);
+    unsigned loop = node(WHILE, test, node(SKIP, 0, 0, 0), 0);
+    unsigned called = node(PROC, Y, loop, 0);
+    unsigned given = node(PROC, Z, declarations(NODES - 9), 0);
+    node(CALL, called, given, 0);
+    end();
+    report_run("a procedure compared with itself");
 }
 
 static void run_of_sequences(unsigned depth) {
@@ -156,6 +177,7 @@ int main(void) {
     run_of_expression("selections, left in left", SELECTION, NULL_VALUE, 1);
     run_of_expression("selections, right in right", SELECTION, NULL_VALUE, 0);
     run_of_comparison();
+    run_of_itself();
     run_of_sequences(254); /* as many as fit */
     run_of_sequences((NODES - 1) / 2);
     return 0;
