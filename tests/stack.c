@@ -37,7 +37,8 @@ enum {
     SKIP = 37,
     SEQUENCE = 38,
     WHILE = 39,
-    IF = 40
+    IF = 40,
+    PARALLEL = 41
 };
 
 /* Every script has these two names. */
@@ -161,6 +162,15 @@ static void run_of_sequences(unsigned depth) {
     report_run("sequences, left in left");
 }
 
+/* Opening loops down sequences, but below a parallel it recurs: as many of them as fit beside another command. */
+static void run_of_parallel(void) {
+    begin();
+    unsigned deep = nested(SEQUENCE, SKIP, 1, 252);
+    node(PARALLEL, deep, node(SKIP, 0, 0, 0), 0);
+    end();
+    report_run("sequences in a parallel");
+}
+
 int main(void) {
     printf("a function that does nothing: %zu bytes\n", used_by(nothing));
     begin();
@@ -180,5 +190,6 @@ int main(void) {
     run_of_itself();
     run_of_sequences(254); /* as many as fit */
     run_of_sequences((NODES - 1) / 2);
+    run_of_parallel();
     return 0;
 }

@@ -1,5 +1,5 @@
 //! A second and a third opinion on the proved interpreter: two other interpreters of MiniOO scripts, written from documents 01
-//! and 002 alone, one to be seen to be right and one to be fast, and the means to compare them all on scripts by hand,
+//! and 002 (the words from docs/WORKSPACE.md), one to be seen to be right and one to be fast, and the means to compare them all on scripts by hand,
 //! generated, damaged and arbitrary.
 //!
 //! Reading order: `subject` (what is compared), `image`, `encode` and `parse` (scripts), `independent` (the reference),
