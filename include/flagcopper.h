@@ -3,7 +3,7 @@
  * Three functions check a script, run it, and run it with a row for each step. Each answer, and every word of what the
  * caller lends, is the definitions' for every input: any bytes, any choices, any workspace. They keep nothing between
  * calls, allocate nothing and never stop the program. Give a call some 200 KB of stack: of the scripts measured, on
- * x86-64, the deepest used 181 KB (docs/CHECK.md).
+ * x86-64, the deepest used 148 KB (docs/CHECK.md).
  *
  * C can't say what the proofs rely on, so the caller owes it: a pointer isn't null, not even with length 0, and points
  * to as many aligned elements as its length says; the workspace and the rows overlap nothing else that is passed. */
