@@ -1,0 +1,17 @@
+pub mod Runs
+pub mod Cuts
+pub mod Spelling
+pub mod Listing
+pub mod Numbering
+pub mod Splits
+pub mod Answers
+pub mod Cases
+pub mod Proper
+pub mod Sizes
+pub mod Numbered
+pub mod TableWrote
+pub mod AllVisible
+pub mod TableRight
+pub mod WritesProper
+pub mod TokensProper
+pub mod ReadChecks

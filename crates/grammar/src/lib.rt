@@ -1,0 +1,1 @@
+// What a written script is, and what image it stands for: definitions and theorems alone. There are no functions.

@@ -1,0 +1,3 @@
+pub mod WriteTokens
+pub mod Spell
+pub mod Renumber
