@@ -1,0 +1,10 @@
+pub mod Pieces
+pub mod Words
+pub mod Sound
+pub mod Complete
+pub mod SameLaws
+pub mod PartLaws
+pub mod AnswerLaws
+pub mod GoingLaws
+pub mod Uses
+pub mod Cases

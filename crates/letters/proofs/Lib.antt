@@ -1,0 +1,11 @@
+pub mod ClassLaws
+pub mod PastLaws
+pub mod RunLaws
+pub mod TableLaws
+pub mod KindLaws
+pub mod PieceLaws
+pub mod SymbolLaws
+pub mod NextLaws
+pub mod NumberLaws
+pub mod Determined
+pub mod LineLaws
