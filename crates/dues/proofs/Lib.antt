@@ -1,0 +1,9 @@
+pub mod DeedLaws
+pub mod ElseLaws
+pub mod OnlyLaws
+pub mod WordLaws
+pub mod PassLaws
+pub mod StackLaws
+pub mod FinishLaws
+pub mod PileLaws
+pub mod KeepLaws

@@ -1,0 +1,5 @@
+pub mod ByteLaws
+pub mod NodeLaws
+pub mod Tabling
+pub mod HeadLaws
+pub mod ReadTabled
