@@ -1,0 +1,9 @@
+pub mod DecideLaws
+pub mod JudgeLaws
+pub mod WorthLaws
+pub mod BuildLaws
+pub mod PassedLaws
+pub mod StepLaws
+pub mod NameLaws
+pub mod PlaceLaws
+pub mod FinishLaws

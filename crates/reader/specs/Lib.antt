@@ -1,0 +1,5 @@
+pub mod Built
+pub mod Worth
+pub mod Under
+pub mod Judged
+pub mod Finish
