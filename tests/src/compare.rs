@@ -2,10 +2,8 @@
 //! rows and every word of the workspace, those past its size included.
 
 use crate::generate::{case, Case};
-use crate::random::Random;
+use crate::search::{Compared, Found, Tally};
 use crate::subject::{Answer, Subject, ROW};
-use std::collections::BTreeMap;
-use std::fmt;
 
 /// What a subject made of a case by one of the calls.
 #[derive(PartialEq, Eq)]
@@ -72,46 +70,16 @@ fn first_other<T: PartialEq>(left: &[T], right: &[T]) -> Option<usize> {
     left.iter().zip(right).position(|(a, b)| a != b)
 }
 
-/// How often each refusal and end was met, to see that the cases reach all of them.
-#[derive(Default)]
-pub struct Tally {
-    counts: BTreeMap<String, usize>,
-    pub cases: usize,
-    pub steps: usize,
-}
-
-impl Tally {
-    fn count(&mut self, answer: &Answer) {
-        let what = match (answer.refusal, answer.end) {
-            (0, 1) => "done".to_string(),
-            (0, 2) => format!("fault {}", answer.number),
-            (0, 3) => format!("room {}", answer.number),
-            (0, 4) => "used up".to_string(),
-            (0, _) => "out of range".to_string(),
-            (refusal, _) => format!("refusal {refusal}"),
-        };
-        *self.counts.entry(what).or_default() += 1;
-        self.cases += 1;
-        self.steps += answer.steps;
+/// What a case was answered.
+fn told(answer: &Answer) -> String {
+    match (answer.refusal, answer.end) {
+        (0, 1) => "done".to_string(),
+        (0, 2) => format!("fault {}", answer.number),
+        (0, 3) => format!("room {}", answer.number),
+        (0, 4) => "used up".to_string(),
+        (0, _) => "out of range".to_string(),
+        (refusal, _) => format!("refusal {refusal}"),
     }
-
-    pub fn of(&self, what: &str) -> usize {
-        self.counts.get(what).copied().unwrap_or(0)
-    }
-}
-
-impl fmt::Display for Tally {
-    fn fmt(&self, f: &mut fmt::Formatter) -> fmt::Result {
-        write!(f, "{} cases, {} steps:", self.cases, self.steps)?;
-        self.counts.iter().try_for_each(|(what, count)| write!(f, " {what} {count},"))
-    }
-}
-
-/// A case on which the two differ, and how.
-pub struct Found {
-    pub number: u64,
-    pub case: Case,
-    pub how: String,
 }
 
 /// Compares on generated cases of the seed until they differ or the cases are used up; `progress` hears of each case.
@@ -120,17 +88,11 @@ pub fn search(
     subject: &dyn Subject,
     seed: u64,
     cases: std::ops::Range<u64>,
-    mut progress: impl FnMut(&Tally),
-) -> (Tally, Option<Found>) {
-    let mut tally = Tally::default();
-    for number in cases {
-        let case = case(&mut Random::of_case(seed, number));
-        let (answer, found) = compared(reference, subject, &case);
-        tally.count(&answer);
-        if let Some(how) = found {
-            return (tally, Some(Found { number, case, how }));
-        }
-        progress(&tally);
-    }
-    (tally, None)
+    progress: impl FnMut(&Tally),
+) -> (Tally, Option<Found<Case>>) {
+    let compared = |case: &Case| {
+        let (answer, how) = compared(reference, subject, case);
+        Compared { answer: told(&answer), amount: answer.steps, how }
+    };
+    crate::search::search(seed, cases, Tally::of_unit("steps"), case, compared, progress)
 }

@@ -1,12 +1,15 @@
 //! A second and a third opinion on the proved interpreter: two other interpreters of MiniOO scripts, written from documents 01
 //! and 002 (the words from docs/WORKSPACE.md), one to be seen to be right and one to be fast, and the means to compare them all on scripts by hand,
-//! generated, damaged and arbitrary.
+//! generated, damaged and arbitrary. And the same for the reading of written scripts, order 1 of document 02.
 //!
-//! Reading order: `subject` (what is compared), `image`, `encode` and `parse` (scripts), `independent` (the reference),
-//! `flat` (the measure of speed), `generate`, `compare` and `shrink`; `readback` (the state in the words of a run).
+//! Reading order: `subject` (what is compared), `image`, `assemble` and `parse` (scripts), `independent` (the reference),
+//! `flat` (the measure of speed), `generate`, `search`, `compare` and `shrink`; `readback` (the state in the words of a run). For written
+//! scripts `written` (the reference), `chart` (the second opinion), `generate::written` and `reading` (their comparison).
 
+pub mod arguments;
+pub mod assemble;
+pub mod chart;
 pub mod compare;
-pub mod encode;
 pub mod flat;
 pub mod generate;
 pub mod image;
@@ -16,6 +19,9 @@ pub mod library;
 pub mod parse;
 pub mod random;
 pub mod readback;
+pub mod reading;
+pub mod search;
 pub mod shrink;
 pub mod subject;
+pub mod written;
 pub mod x86;

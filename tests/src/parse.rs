@@ -3,7 +3,7 @@
 //! Names are numbered as they are first met. Fields are listed first with their codes: `fields c 3, f 7: COMMAND`. A
 //! number may carry a minus sign; a proc reaches as far as its command does; parentheses group expressions.
 
-use crate::encode::*;
+use crate::assemble::*;
 use crate::image::Image;
 
 /// The image of a written script; a mistake in it is a mistake of the test and panics.

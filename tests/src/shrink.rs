@@ -4,13 +4,19 @@ use crate::generate::Case;
 use crate::image::{children, kind, Image, Kind};
 use crate::subject::SIZE;
 
-/// The smallest case found by taking away nodes and choices, as long as `differs`. A pass goes on where it last took
+/// What can be made smaller.
+pub trait Smaller: Clone {
+    /// A little smaller each, the boldest first.
+    fn smaller(&self) -> Box<dyn Iterator<Item = Self> + '_>;
+}
+
+/// The smallest case found by taking something away, as long as `differs`. A pass goes on where it last took
 /// something away, and passes are made until one takes nothing.
-pub fn shrunk(case: &Case, differs: impl Fn(&Case) -> bool) -> Case {
+pub fn shrunk<C: Smaller>(case: &C, differs: impl Fn(&C) -> bool) -> C {
     let mut least = case.clone();
     let (mut tried, mut taken) = (0, false);
     loop {
-        let next = smaller(&least).enumerate().skip(tried).find(|(_, smaller)| differs(smaller));
+        let next = least.smaller().enumerate().skip(tried).find(|(_, smaller)| differs(smaller));
         match next {
             Some((at, smaller)) => (least, tried, taken) = (smaller, at, true),
             None if taken => (tried, taken) = (0, false),
@@ -19,7 +25,13 @@ pub fn shrunk(case: &Case, differs: impl Fn(&Case) -> bool) -> Case {
     }
 }
 
-/// Cases a little smaller than this one, the boldest first.
+impl Smaller for Case {
+    fn smaller(&self) -> Box<dyn Iterator<Item = Case> + '_> {
+        Box::new(smaller(self))
+    }
+}
+
+/// Cases with nodes or choices taken away.
 fn smaller(case: &Case) -> impl Iterator<Item = Case> + '_ {
     let lent = Case { words: SIZE, rows: 0, pattern: 0, ..case.clone() };
     let lent = (case.words >= SIZE && *case != lent).then_some(lent);
@@ -39,7 +51,7 @@ fn smaller(case: &Case) -> impl Iterator<Item = Case> + '_ {
 }
 
 /// The list without its second half, quarters, and so on down to single elements.
-fn fewer(list: &[u8]) -> impl Iterator<Item = Vec<u8>> + '_ {
+pub fn fewer(list: &[u8]) -> impl Iterator<Item = Vec<u8>> + '_ {
     let sizes = std::iter::successors(Some(list.len().div_ceil(2)), |size| (*size > 1).then_some(size.div_ceil(2)));
     sizes.filter(|size| *size > 0).flat_map(move |size| {
         let starts = (0..list.len()).step_by(size).collect::<Vec<_>>().into_iter().rev();
@@ -90,11 +102,11 @@ fn reached(image: &Image) -> Image {
     image.reordered(&order)
 }
 
-fn hex(bytes: &[u8]) -> String {
+pub fn hex(bytes: &[u8]) -> String {
     bytes.iter().map(|byte| format!("{byte:02x}")).collect()
 }
 
-fn unhex(text: &str) -> Option<Vec<u8>> {
+pub fn unhex(text: &str) -> Option<Vec<u8>> {
     let digit = |at: usize| text.get(at..at + 2).and_then(|pair| u8::from_str_radix(pair, 16).ok());
     (0..text.len()).step_by(2).map(digit).collect()
 }

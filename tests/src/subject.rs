@@ -49,6 +49,45 @@ pub trait Subject {
     fn trace(&self, script: &[u8], choices: &[u8], workspace: &mut [u64], rows: &mut [u32]) -> Answer;
 }
 
+/// Words of 4 bytes that the reader of a text of so many bytes is lent: more than what such a text can leave open.
+pub fn reading_words(text_bytes: usize) -> usize {
+    text_bytes.saturating_mul(3).saturating_add(4)
+}
+
+/// Bytes that the reader is lent for the image: as many as the largest has.
+pub const LARGEST_IMAGE: usize = 10 + 2 * 16 + 8 * 2_048;
+
+/// The answer of a reading: the image, or the refusal with its line, which is 0 where the text has no part in it.
+#[derive(Clone, Debug, PartialEq, Eq)]
+pub enum Reading {
+    Image(Vec<u8>),
+    Refused { number: u32, line: u32 },
+}
+
+impl Reading {
+    /// What a reading leaves in the memory that it was lent: the image's bytes and no other; 20, 28 and 21 touch none of the words, and
+    /// every other answer leaves those that the text asks for zero.
+    pub fn leave(&self, text: &[u8], work: &mut [u32], out: &mut [u8]) {
+        if let Reading::Image(bytes) = self {
+            out[..bytes.len()].copy_from_slice(bytes);
+        }
+        if !matches!(self, Reading::Refused { number: 20 | 28 | 21, .. }) {
+            work[..reading_words(text.len())].fill(0);
+        }
+    }
+}
+
+/// Anything that reads written scripts as order 1 says.
+pub trait Reader {
+    fn read(&self, text: &[u8], list: &[u8], work: &mut [u32], out: &mut [u8]) -> Reading;
+}
+
+/// Everyone who must give order 1's answers. The library joins them here as it does below, with a `Reader` for `flagcopper_read` in
+/// `library`, whose image is the part of `out` that its answer names.
+pub fn readers() -> Vec<(&'static str, Box<dyn Reader>)> {
+    vec![("descent", Box::new(crate::written::Descent::right()))]
+}
+
 /// Everyone who must give the documents' answers: the independent interpreter, the flat one, and the library where it is linked.
 pub fn subjects() -> Vec<(&'static str, Box<dyn Subject>)> {
     vec![

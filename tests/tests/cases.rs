@@ -1,6 +1,6 @@
 //! The scripts tried by hand (document 01, a to o) and the listing's example, on every subject.
 
-use flagcopper_tests::encode::{parallel, skip, Branch};
+use flagcopper_tests::assemble::{parallel, skip, Branch};
 use flagcopper_tests::image::Image;
 use flagcopper_tests::independent::listing::listing;
 use flagcopper_tests::parse::script;

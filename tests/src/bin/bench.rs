@@ -9,7 +9,7 @@
 //! The flat interpreter is fast enough to be the measure as long as it takes about a seventh of the independent one's time on
 //! the counting loop, or less: the last column.
 
-use flagcopper_tests::encode::*;
+use flagcopper_tests::assemble::*;
 use flagcopper_tests::image::Image;
 use flagcopper_tests::parse::script;
 use flagcopper_tests::subject::{subjects, Subject, SIZE};

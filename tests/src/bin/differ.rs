@@ -4,6 +4,7 @@
 //! library, or with `--against` the one of that name, `flat` or the independent interpreter with a wrong turn. It ends with 1
 //! when a difference is found.
 
+use flagcopper_tests::arguments::{number, option};
 use flagcopper_tests::compare::{difference, search};
 use flagcopper_tests::independent::{Independent, Wrong};
 use flagcopper_tests::shrink::{read, shrunk, written};
@@ -12,16 +13,6 @@ use std::process::ExitCode;
 use std::time::{Duration, Instant};
 
 const EVERY: Duration = Duration::from_secs(10);
-
-fn option(name: &str) -> Option<String> {
-    let arguments: Vec<String> = std::env::args().collect();
-    let at = arguments.iter().position(|argument| argument == name)?;
-    Some(arguments.get(at + 1).unwrap_or_else(|| panic!("{name} wants a value")).clone())
-}
-
-fn number(name: &str, default: u64) -> u64 {
-    option(name).map_or(default, |value| value.parse().unwrap_or_else(|_| panic!("{name} wants a number")))
-}
 
 fn subject() -> (String, Box<dyn Subject>) {
     let name = option("--against").unwrap_or_else(|| "library".to_string());
@@ -53,7 +44,7 @@ fn main() -> ExitCode {
     let (tally, found) = search(&right, subject.as_ref(), seed, from..from + cases, |tally| {
         if last.elapsed() >= EVERY {
             last = Instant::now();
-            println!("case {}, {} steps, {} s", from + tally.cases as u64, tally.steps, start.elapsed().as_secs());
+            println!("case {}, {} steps, {} s", from + tally.cases as u64, tally.amount, start.elapsed().as_secs());
         }
     });
     println!("{tally} {:.1} s", start.elapsed().as_secs_f64());

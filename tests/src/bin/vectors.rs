@@ -2,7 +2,7 @@
 //! DIRECTORY/args, and the listings of the independent interpreter, each under the name of its image, into
 //! DIRECTORY/stdout. docs/VECTORS.md says what each vector is for.
 
-use flagcopper_tests::encode::{atom, parallel, skip, var, Branch};
+use flagcopper_tests::assemble::{atom, parallel, skip, var, Branch};
 use flagcopper_tests::image::{Image, Node};
 use flagcopper_tests::independent::listing::listing;
 use flagcopper_tests::parse::script;

@@ -1,7 +1,7 @@
 //! Random expressions and tests, and those that fault on purpose.
 
 use super::grow::{Grower, Sort, SORTS};
-use crate::encode::*;
+use crate::assemble::*;
 
 const EXTREMES: [i32; 10] = [i32::MIN, i32::MIN + 1, -65_536, -32_768, -1, 1, 32_767, 65_535, 65_536, i32::MAX];
 

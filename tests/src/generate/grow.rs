@@ -1,7 +1,7 @@
 //! Random commands in which every name is declared. Names and fields have an intended sort, so that most operations
 //! find what they want and runs get far; slips are made on purpose. The weights of the commands differ from script to script.
 
-use crate::encode::*;
+use crate::assemble::*;
 use crate::random::Random;
 
 #[derive(Clone, Copy, PartialEq, Eq)]

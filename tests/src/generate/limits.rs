@@ -1,7 +1,7 @@
 //! Scripts that come close to the limits: 1,024 frames, 256 objects, 255 parts.
 
 use super::grow::{Grower, Sort};
-use crate::encode::*;
+use crate::assemble::*;
 
 /// Recursion that ends for room 1, with something done on the way.
 pub fn calls_without_end(grower: &mut Grower) -> Branch {

@@ -7,6 +7,7 @@ mod express;
 mod grow;
 mod limits;
 mod themes;
+pub mod written;
 
 use crate::random::Random;
 use crate::subject::{ROW, SIZE};

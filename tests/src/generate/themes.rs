@@ -2,7 +2,7 @@
 
 use super::grow::{Grower, Sort};
 use super::limits::{calls_without_end, frames_or_objects_without_end, to_the_brim, wide};
-use crate::encode::*;
+use crate::assemble::*;
 use crate::image::{children, row, Image, Word};
 use crate::random::Random;
 

@@ -11,14 +11,14 @@ fn folder(name: &str) -> PathBuf {
     folder
 }
 
-fn encode(folder: &Path, arguments: &[&str]) -> Output {
-    Command::new(env!("CARGO_BIN_EXE_encode")).current_dir(folder).args(arguments).output().expect("encode runs")
+fn assemble(folder: &Path, arguments: &[&str]) -> Output {
+    Command::new(env!("CARGO_BIN_EXE_assemble")).current_dir(folder).args(arguments).output().expect("assemble runs")
 }
 
 #[test]
 fn the_example_of_the_listing() {
     let folder = folder("example");
-    assert!(encode(&folder, &["var x; x = 1", "0", "0"]).status.success());
+    assert!(assemble(&folder, &["var x; x = 1", "0", "0"]).status.success());
     let made = |name: &str| std::fs::read(folder.join(name)).expect("it was made");
     assert_eq!(made("script.img"), include_bytes!("../../crates/listing/data/script.img"));
     assert_eq!(made("choices.bin"), [0, 0]);
@@ -29,7 +29,7 @@ fn nothing_is_written_of_wrong_arguments() {
     let folder = folder("wrong");
     let wrong: [&[&str]; 5] = [&[], &["var x; x ="], &["skip skip"], &["skip", "0", "256"], &["skip", "no"]];
     for arguments in wrong {
-        let output = encode(&folder, arguments);
+        let output = assemble(&folder, arguments);
         assert!(!output.status.success() && !output.stderr.is_empty(), "{arguments:?}");
         assert_eq!(std::fs::read_dir(&folder).expect("the folder").count(), 0, "{arguments:?}");
     }

@@ -2,15 +2,15 @@
 
 use crate::image::{Image, Node};
 
-/// A node of a script with its children in it.
+/// A node of a script with its children in it, and its words in order, as far as its tag's row has them.
 #[derive(Clone, Debug, PartialEq, Eq)]
 pub struct Branch {
-    tag: u16,
-    words: Vec<Operand>,
+    pub tag: u16,
+    pub words: Vec<Operand>,
 }
 
 #[derive(Clone, Debug, PartialEq, Eq)]
-enum Operand {
+pub enum Operand {
     Number(u16),
     Child(Branch),
 }

@@ -1,4 +1,4 @@
-//! Makes the two files of a run, `script.img` and `choices.bin`, here: `encode 'var x; x = 1' 0 0`. The script is written as
+//! Makes the two files of a run, `script.img` and `choices.bin`, here: `assemble 'var x; x = 1' 0 0`. The script is written as
 //! `parse` reads it; what follows are the choices. Neither file is written unless both are known.
 
 use flagcopper_tests::parse::script;
@@ -15,7 +15,7 @@ fn said(panic: &(dyn Any + Send)) -> String {
 
 /// The bytes of the image and of the choices, or what is wrong with the arguments.
 fn files(arguments: &[String]) -> Result<(Vec<u8>, Vec<u8>), String> {
-    let (text, choices) = arguments.split_first().ok_or("encode SCRIPT CHOICE ...")?;
+    let (text, choices) = arguments.split_first().ok_or("assemble SCRIPT CHOICE ...")?;
     let image = catch_unwind(|| script(text)).map_err(|panic| said(panic.as_ref()))?;
     let choice = |word: &String| word.parse().map_err(|_| format!("a choice is a number of 0 to 255: {word}"));
     Ok((image.bytes(), choices.iter().map(choice).collect::<Result<_, _>>()?))
