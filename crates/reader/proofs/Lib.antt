@@ -7,3 +7,5 @@ pub mod StepLaws
 pub mod NameLaws
 pub mod PlaceLaws
 pub mod FinishLaws
+pub mod TextLaws
+pub mod ReadLaws

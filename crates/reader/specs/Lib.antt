@@ -3,3 +3,4 @@ pub mod Worth
 pub mod Under
 pub mod Judged
 pub mod Finish
+pub mod Says
