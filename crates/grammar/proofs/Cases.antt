@@ -186,3 +186,7 @@ word-short list text w e = short-work (omega arith) (omega arith)
 
 pub byte-short : (list text : List ℕ) (w : ℕ) → Refuses 16425 w list text 20 0
 byte-short list text w = short-output (omega arith)
+
+-- and how many words that is
+pub words-for-skip : wordsFor (length (ascii "skip")) ≡ 16
+words-for-skip = refl

@@ -15,3 +15,8 @@ pub mod TableRight
 pub mod WritesProper
 pub mod TokensProper
 pub mod ReadChecks
+pub mod ByteClasses
+pub mod Nested
+pub mod BadLists
+pub mod ListDecided
+pub mod Spellings

@@ -14,11 +14,11 @@ pub name-in-word : {w : List ℕ} → FieldName w → every inWord w ≡ true
 unfolding every inWord isLetter
 name-in-word n = rw (n .is, n .low) (n .follow)
 
-comma-ends : (s : List ℕ) → begins inWord (44 ∷ s) ≡ false
+pub comma-ends : (s : List ℕ) → begins inWord (44 ∷ s) ≡ false
 unfolding begins inWord isLetter isDigit classOf blanks symbols among
 comma-ends s = refl
 
-line-ends : (s : List ℕ) → begins isDigit (lineEnd ∷ s) ≡ false
+pub line-ends : (s : List ℕ) → begins isDigit (lineEnd ∷ s) ≡ false
 unfolding begins isDigit classOf blanks among
 line-ends s = refl
 

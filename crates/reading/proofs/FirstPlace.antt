@@ -60,7 +60,7 @@ no-text ts e w =
     omega arith
 
 -- and none begins with tokens at which reading stops
-stopped-right : (us : List Tok) → feeds us start [] ≡ stuck → Begins us → ⊥
+pub stopped-right : (us : List Tok) → feeds us start [] ≡ stuck → Begins us → ⊥
 unfolding reading
 stopped-right us e b = no-text (us ++ b .rest) (ap finished (fed-stuck us (b .rest) e)) (b .text)
 

@@ -23,3 +23,10 @@ pub mod Longer
 pub mod Steps
 pub mod Large
 pub mod Ends
+pub mod Answered
+pub mod Worked
+pub mod Accepted
+pub mod Refused
+pub mod SomeAnswer
+pub mod ManyNames
+pub mod OutsideBits
