@@ -1,3 +1,4 @@
+pub mod Upto
 pub mod Built
 pub mod Worth
 pub mod Under
