@@ -9,3 +9,5 @@ pub mod PlaceLaws
 pub mod FinishLaws
 pub mod TextLaws
 pub mod ReadLaws
+pub mod TakingLaws
+pub mod WhyLaws

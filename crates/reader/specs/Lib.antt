@@ -5,3 +5,5 @@ pub mod Under
 pub mod Judged
 pub mod Finish
 pub mod Says
+pub mod Taking
+pub mod Why
