@@ -11,3 +11,4 @@ pub mod TextLaws
 pub mod ReadLaws
 pub mod TakingLaws
 pub mod WhyLaws
+pub mod WhyOne

@@ -1,6 +1,6 @@
 -- Where the reading of a text ended, told to a person: what stood there and what could have stood there. The places before it are right; the one that follows
--- them is wrong, or it is the end of the text. "Could" is of the grammar and of kinds alone, whatever the name, the field or the number (`GoesOn`); it
--- isn't of the list or the limits. Order 1 asks for number and line; the rest is for the eye. Assumes nothing.
+-- them is wrong, or it is the end of the text. "Could" is of the grammar and of kinds alone, whatever the name, the field or the number (`GoesOn`), not of the list
+-- or the limits. Order 1 asks for number and line; the rest is for the eye. Every word of it is determined (proofs/WhyOne). Assumes nothing.
 use Prim.Native.Nat.{ℕ, zero, suc, _<_, _≤_}
 use mathlib.Core.Path.{_≡_}
 use mathlib.Core.Bool.{Bool, true, false}
