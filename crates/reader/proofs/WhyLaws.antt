@@ -1,32 +1,29 @@
 -- From where a reading ended to what is told of it. Assumes nothing.
-use Prim.Native.Nat.{ℕ, zero, suc, _<_, _≤_}
-use mathlib.Core.Path.{_≡_, refl, sym, ap, subst, _∙_}
+use Prim.Native.Nat.{ℕ, zero, suc}
+use mathlib.Core.Path.{_≡_, refl, sym, ap, subst}
 use mathlib.Core.Bool.{Bool}
 use mathlib.Core.List.{List, [], _∷_, _++_}
 use native.Mathlib.Omega.{arith}
 use lib.ListN.{length, drop, set, replicate, length-append}
 use lib.Seq.{append-snoc}
-use Rattle.grammar.specs.Tokens.{Tok}
 use Rattle.grammar.specs.Places.{Spot, spot, Spelled}
 use Rattle.grammar.specs.FieldList.{Entry}
-use Rattle.grammar.specs.Reads.{Right, Wrong, wordsFor}
+use Rattle.grammar.specs.Reads.{wordsFor}
 use Rattle.grammar.proofs.Spelling.{spelled-some, spelled-one}
 use Rattle.reading.specs.Items.{Item}
 use Rattle.reading.specs.Table.{Due}
 use Rattle.reading.specs.Progress.{Progress}
 use Rattle.reading.proofs.Steps.{right-so-far}
 use Rattle.reading.proofs.Ends.{spelled-whole}
-use Rattle.letters.specs.declared.places.Place.{Place}
-use Rattle.letters.specs.Says.{NextSays}
 use Rattle.fieldlist.specs.declared.FieldRows.{FieldRows}
 use Rattle.fieldlist.specs.Answer.{entriesOf}
 use Rattle.dues.specs.Stack.{Stacked, Standing}
 use Rattle.reader.specs.declared.text.Ending.{Ending}
 use Rattle.reader.specs.declared.why.Why.{Why}
 use Rattle.reader.specs.Upto.{pieceAt, Upto, none-yet, one-more}
-use Rattle.reader.specs.Says.{Stood, Finds, Stopped, TextSays, cleared}
+use Rattle.reader.specs.Says.{Finds, TextSays}
 use Rattle.reader.specs.Taking.{Asked}
-use Rattle.reader.specs.Why.{IsRead, Answers, WrongThere, There, Stops, WhySays}
+use Rattle.reader.specs.Why.{Answers, There, Stops, WhySays}
 use Rattle.reader.proofs.ReadLaws.{clears}
 use Rattle.reader.proofs.TakingLaws.{tells-all}
 
