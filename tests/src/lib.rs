@@ -4,7 +4,7 @@
 //!
 //! Reading order: `subject` (what is compared), `image`, `assemble` and `parse` (scripts), `independent` (the reference),
 //! `flat` (the measure of speed), `generate`, `search`, `compare` and `shrink`; `readback` (the state in the words of a run). For written
-//! scripts `written` (the reference), `chart` (the second opinion), `generate::written` and `reading` (their comparison).
+//! scripts `written` (the reference), `chart` (the second opinion), `generate::written` and `reading` (their comparison), `worked` (texts by hand).
 
 pub mod arguments;
 pub mod assemble;
@@ -23,5 +23,6 @@ pub mod reading;
 pub mod search;
 pub mod shrink;
 pub mod subject;
+pub mod worked;
 pub mod written;
 pub mod x86;

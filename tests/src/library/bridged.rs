@@ -53,7 +53,21 @@ trait Lent {
     fn receive(&mut self, bytes: &[u8]);
 }
 
-macro_rules! lent {
+impl Lent for [u8] {
+    fn bytes(&self) -> usize {
+        self.len()
+    }
+
+    fn send(&self, bytes: &mut Vec<u8>) {
+        bytes.extend(self);
+    }
+
+    fn receive(&mut self, bytes: &[u8]) {
+        self.copy_from_slice(bytes);
+    }
+}
+
+macro_rules! lent_words {
     ($($word:ty)*) => {$(
         impl Lent for [$word] {
             fn bytes(&self) -> usize {
@@ -61,7 +75,8 @@ macro_rules! lent {
             }
 
             fn send(&self, bytes: &mut Vec<u8>) {
-                bytes.extend(self.iter().flat_map(|word| word.to_le_bytes()));
+                bytes.reserve(self.bytes());
+                self.iter().for_each(|word| bytes.extend_from_slice(&word.to_le_bytes()));
             }
 
             fn receive(&mut self, bytes: &[u8]) {
@@ -73,7 +88,7 @@ macro_rules! lent {
     )*};
 }
 
-lent!(u8 u32 u64);
+lent_words!(u32 u64);
 
 fn nothing() -> &'static mut [u8] {
     &mut []
