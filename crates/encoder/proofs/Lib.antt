@@ -1,0 +1,4 @@
+pub mod WordLaws
+pub mod LineLaws
+pub mod CouldLaws
+pub mod SecondLaws
