@@ -2,3 +2,5 @@ pub mod WordLaws
 pub mod LineLaws
 pub mod CouldLaws
 pub mod SecondLaws
+pub mod FaultLaws
+pub mod AnswerLaws

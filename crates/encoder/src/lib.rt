@@ -1,4 +1,5 @@
 // The program `encode` as a library: what is printed for a text and a list of fields, and the files.
+pub mod answer;
 mod could;
 mod lines;
 mod second;
