@@ -5,8 +5,8 @@ use mathlib.Core.Bool.{Bool, true, false, not}
 use mathlib.Core.Option.{Option, none, some}
 use mathlib.Core.List.{List, [], _∷_, _++_}
 use native.Mathlib.Omega.{arith}
-use lib.ListN.{length, take, drop}
-use lib.Seq.{slice, length-slice}
+use lib.ListN.{length, take, drop, length-append}
+use lib.Seq.{slice, length-slice, take-at}
 use Rattle.grammar.specs.FieldList.{Entry, Listed}
 use Rattle.grammar.specs.Reads.{mostBytes, wordsFor, Lent, Reads, RefusedText, Refuses, short-output, short-work, bad-list, bad-text}
 use Rattle.reading.proofs.Answered.{image-or-refusal}
@@ -19,6 +19,7 @@ use Rattle.reader.specs.declared.why.Why.{Why}
 use Rattle.reader.specs.Says.{Accepts, Denies, ReadSays}
 use Rattle.reader.specs.Why.{IsRead, There, WrongThere, Stops, WhySays}
 use Rattle.reader.specs.Why.{Answers as WhyAnswers}
+use Rattle.io.specs.Counts.{Counts}
 use Rattle.text.specs.Written.{Wrote, Line}
 use Rattle.text.proofs.WroteLaws.{both-wrote, wrote-as}
 use Rattle.text.proofs.LineLaws.{line-of, line-same}
@@ -137,6 +138,12 @@ module _ (text list : List ℕ) (rows : FieldRows) (w : Why) (ws ws′ : List �
 
 -- ---- a text and a list that are not too long
 
+image-counts : (img : List ℕ) (n : ℕ) (before after : List ℕ) → n ≡ length img → after ≡ img ++ drop n before → Counts n after
+image-counts img n before after long is =
+    let t : take n after ≡ img = ap (take n) is ∙ take-at img (drop n before) n (sym long) in
+    let l : length after ≡ length img + length (drop n before) = ap length is ∙ length-append img (drop n before) in
+    (omega arith, long ∙ ap length (sym t))
+
 module _ (name text list img out : List ℕ) (short : Short text list) where
   pub encoded-image : (y : Reading) (n r : ℕ) (a : Answered) (ws ws′ img′ out′ : List ℕ)
       → mostPrinted ≤ length out
@@ -151,9 +158,9 @@ module _ (name text list img out : List ℕ) (short : Short text list) where
       let long = x .long in
       let reads : Reads lentBytes lentWords list text (x .img) = record { lent = (omega arith, omega (arith, short .0)); fields = x .reads .fields; listed = x .reads .listed; read = x .reads .read } in
       let l : Line mostPrinted (imageLine name (length (x .img))) out r out′ =
-          line-same 4608 4608 r (imageLine name n) (imageLine name (length (x .img))) out out′
-          (line-of 4608 r (imageLine name n) out out′ (wrote-as (length name + 28) 4608 0 r (imageLine name n) (imageLine name n) out out′ w refl (omega arith)) room)
-          (ap (imageLine name) long) (omega arith) in
+      line-same 4608 4608 r (imageLine name n) (imageLine name (length (x .img))) out out′
+      (line-of 4608 r (imageLine name n) out out′ (wrote-as (length name + 28) 4608 0 r (imageLine name n) (imageLine name n) out out′ w refl (omega arith)) room)
+      (ap (imageLine name) long) (omega arith) in
       rw e
       (record {
         lines = imageLine name (length (x .img));
@@ -161,6 +168,7 @@ module _ (name text list img out : List ℕ) (short : Short text list) where
         encodes = E.an-image short reads;
         printed = l;
         is = (long, x .output);
+        counts = image-counts (x .img) n img img′ long (x .output);
       })
 
   module _ (y : Reading) (k l : ℕ) (ws ws′ img′ : List ℕ) (said : ReadSays list text y ws img ws′ img′) (is : y ≡ Refused k l) where
@@ -180,6 +188,7 @@ module _ (name text list img out : List ℕ) (short : Short text list) where
           encodes = s .encodes name;
           printed = line-same 512 4608 r (s .lines) (s .lines) out out′ (s .printed) refl (omega arith);
           is = (refl, denies .output);
+          counts = (omega arith, refl);
         })
 
 -- ---- two files
@@ -202,6 +211,7 @@ module _ (found also-found : Bool) (name text list img out : List ℕ) (room : m
         encodes = x;
         printed = line-of 4608 r lines out out′ (wrote-as 64 4608 0 r lines lines out out′ w refl (omega arith)) room;
         is = (refl, refl);
+        counts = (omega arith, refl);
       })
 
   pub answers-no-text : not found ≡ true → Wrote 64 out 0 noInput r out′ → AnswerSays name (given found text) (given also-found list) a img out img out′

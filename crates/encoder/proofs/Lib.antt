@@ -4,3 +4,6 @@ pub mod CouldLaws
 pub mod SecondLaws
 pub mod FaultLaws
 pub mod AnswerLaws
+pub mod FileLaws
+pub mod Cut
+pub mod Cases

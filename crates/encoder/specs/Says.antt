@@ -5,6 +5,7 @@ use mathlib.Core.Option.{Option, none, some}
 use mathlib.Core.List.{List, _++_}
 use lib.ListN.{length, drop}
 use Rattle.grammar.specs.Reads.{Refuses}
+use Rattle.io.specs.Counts.{Counts}
 use Rattle.text.specs.Written.{Line}
 use Rattle.reader.specs.declared.why.Why.{Why}
 use Rattle.encoder.specs.Encodes.{lentBytes, lentWords, Encodes}
@@ -28,6 +29,11 @@ pub record AnswerSays (name : List ℕ) (text list : Option (List ℕ)) (r : Ans
   pub encodes : Encodes name text list lines image
   pub printed : Line mostPrinted lines out (r .printed) out′
   pub is : ImageIs image (r .image) img img′
+  pub counts : Counts (r .image) img′
+
+-- what was read of the files is not known here; the first bytes of the buffers are to be printed and written
+abbrev pub Fits : Answered → List ℕ → List ℕ → Type 0
+Fits r img out = Counts (r .printed) out × Counts (r .image) img
 
 -- ---- what the functions below it say
 
