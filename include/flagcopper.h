@@ -124,8 +124,8 @@ typedef struct {
 size_t flagcopper_read_words(size_t text_bytes);
 
 /* Reads a written script. The image is the first `length` bytes of the output, and no other byte of it is written; a
- * refusal writes none. flagcopper_check accepts the image or refuses it with 9, a name used where it isn't declared: no
- * other reason is left. Of the words the first flagcopper_read_words(text_bytes) are zero afterwards, whatever they were,
+ * refusal writes none. Told of FLAGCOPPER_SIZE words or more, flagcopper_check accepts the image or refuses it with 9, a
+ * name used where it isn't declared: no other reason is left. Of the words the first flagcopper_read_words(text_bytes) are zero afterwards, whatever they were,
  * but 20, 28 and 21 leave them as they were; those past them are neither read nor written. */
 flagcopper_reading flagcopper_read(const uint8_t *text, size_t text_bytes, const uint8_t *list, size_t list_bytes,
                                    uint32_t *words, size_t word_count, uint8_t *output, size_t output_bytes);
