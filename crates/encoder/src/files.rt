@@ -38,6 +38,18 @@ fn page() -> [u8; 4608]
     [0; 4608]
 }
 
+// Whether a file was read to its end, or as far as there is room for it; one that can't be opened or read (a folder, say) is none, and not an empty one.
+fn is_read(fd: i32, count: usize, room: usize) -> bool {
+    if fd < 0 {
+        return false;
+    }
+    if count == room {
+        return true;
+    }
+    let mut byte = [0u8; 1];
+    libc::read(fd, &mut byte) == 0
+}
+
 fn answer_files(text: i32, list: i32, name: &[u8], img: &mut [u8], out: &mut [u8]) -> Answered
     requires { ⌜ length (now name) ≤ mostName ⌝ }
     requires { ⌜ (lentBytes ≤ length (now img)) × (mostPrinted ≤ length (now out)) ⌝ }
@@ -48,8 +60,8 @@ fn answer_files(text: i32, list: i32, name: &[u8], img: &mut [u8], out: &mut [u8
     let mut rows = list_room();
     let m = io::read_full(list, &mut rows);
     answer(
-        text >= 0,
-        list >= 0,
+        is_read(text, n, 262145),
+        is_read(list, m, 4097),
         &bytes[..n],
         &rows[..m],
         name,
