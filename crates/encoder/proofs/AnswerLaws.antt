@@ -7,17 +7,15 @@ use mathlib.Core.List.{List, [], _∷_, _++_}
 use native.Mathlib.Omega.{arith}
 use lib.ListN.{length, take, drop, length-append}
 use lib.Seq.{slice, length-slice, take-at}
-use Rattle.grammar.specs.FieldList.{Entry, Listed}
-use Rattle.grammar.specs.Reads.{mostBytes, wordsFor, Lent, Reads, RefusedText, Refuses, short-output, short-work, bad-list, bad-text}
+use Rattle.grammar.specs.Reads.{Reads, RefusedText, Refuses, short-output, short-work, bad-list, bad-text}
 use Rattle.reading.proofs.Answered.{image-or-refusal}
 use Rattle.fieldlist.specs.Answer.{entriesOf, RightRows, Answers}
 use Rattle.fieldlist.specs.declared.FieldRows.{FieldRows}
-use Rattle.letters.specs.declared.places.Place.{Place}
 use Rattle.reader.specs.declared.Reading.{Reading}
 use Rattle.reader.specs.declared.Reading.the-variants.{Image, Refused}
 use Rattle.reader.specs.declared.why.Why.{Why}
 use Rattle.reader.specs.Says.{Accepts, Denies, ReadSays}
-use Rattle.reader.specs.Why.{IsRead, There, WrongThere, Stops, WhySays}
+use Rattle.reader.specs.Why.{There, WhySays}
 use Rattle.reader.specs.Why.{Answers as WhyAnswers}
 use Rattle.io.specs.Counts.{Counts}
 use Rattle.text.specs.Written.{Wrote, Line}
@@ -26,7 +24,7 @@ use Rattle.text.proofs.LineLaws.{line-of, line-same}
 use Rattle.encoder.specs.Lines.{noInput, textTooLong, listTooLong, imageLine, refusedLine, rowLine, secondLine}
 use Rattle.encoder.specs.Encodes as E
 use Rattle.encoder.specs.Encodes.{mostText, mostList, Short, lentBytes, lentWords, badListLines, badTextLines, Encodes, given}
-use Rattle.encoder.specs.Says.{mostName, mostPrinted, ImageIs, AnswerSays, Shows, IsRefused, RefusalSays}
+use Rattle.encoder.specs.Says.{mostName, mostPrinted, AnswerSays, Shows, IsRefused, RefusalSays}
 use Rattle.encoder.specs.declared.answer.Answered.{Answered}
 use Rattle.encoder.proofs.FaultLaws.{first-bad-row, refused-between}
 

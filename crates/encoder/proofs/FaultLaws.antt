@@ -1,12 +1,12 @@
 -- The numbers of what is wrong are those of the tables: 1 to 9 for a row of the list, 22 to 27 for a text. Assumes nothing.
 use Prim.Native.Nat.{ℕ, zero, suc, _+_, _<_, _≤_}
-use mathlib.Core.Path.{_≡_, refl, sym, ap, _∙_}
-use mathlib.Core.Bool.{Bool, true, false, cond, not, _&&_}
+use mathlib.Core.Path.{_≡_, ap}
+use mathlib.Core.Bool.{Bool, true, false, cond, not}
 use mathlib.Core.List.{List, [], _∷_, _++_, map}
 use native.Mathlib.Omega.{arith}
 use lib.ListN.{length, drop}
 use lib.Seq.{slice}
-use lib.Dec.{eqb, ltb, leb}
+use lib.Dec.{eqb, ltb}
 use Rattle.grammar.specs.Classes.{lower, classOf}
 use Rattle.grammar.specs.FieldList.{Entry, positionOf}
 use Rattle.grammar.specs.Tokens.{Tok, reserved, spelled}

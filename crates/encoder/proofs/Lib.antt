@@ -7,3 +7,4 @@ pub mod AnswerLaws
 pub mod FileLaws
 pub mod Cut
 pub mod Cases
+pub mod OneAnswer

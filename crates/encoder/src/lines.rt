@@ -3,9 +3,8 @@ use crate::words::put_row_fault;
 use text::put_last;
 use text::put_pair;
 use text::put_text;
-ghost use mathlib.Core.Path.{_≡_};
 ghost use Prim.Native.Nat.{_+_, _<_, _≤_};
-ghost use lib.ListN.{length, getD};
+ghost use lib.ListN.{length};
 ghost use Rattle.text.specs.Written.{Wrote};
 ghost use Rattle.encoder.specs.Lines.{noInput, textTooLong, listTooLong, imageLine, refusedLine, rowLine, nodesLine};
 
