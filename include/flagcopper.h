@@ -1,9 +1,9 @@
 /* Flagcopper: a proved interpreter for MiniOO scripts (target/staticlib/libcapi.a, made by `rt staticlib capi`).
  *
- * Three functions check a script, run it, and run it with a row for each step; one makes the script from MiniOO text. Each
- * answer, and every word of what the caller lends, is the definitions' for every input: any bytes, any choices, any
- * workspace. They keep nothing between calls, allocate nothing and never stop the program. Give a call some 200 KB of stack: of the scripts measured, on
- * x86-64, the deepest used 148 KB (docs/CHECK.md).
+ * Three functions check a script, run it, and run it with a row for each step; one makes the script from MiniOO text.
+ * Each answer, and every word of what the caller lends, is the definitions' for every input: any bytes, any choices, any
+ * workspace. They keep nothing between calls, allocate nothing and never stop the program. Give a call some 200 KB of
+ * stack: of the scripts measured, the deepest used 164 KB (docs/CHECK.md).
  *
  * C can't say what the proofs rely on, so the caller owes it: a pointer isn't null, not even with length 0, and points
  * to as many aligned elements as its length says; what is lent to be written (workspace, rows, words, output) overlaps
