@@ -1,11 +1,10 @@
 -- The answer, path by path. Assumes nothing.
-use Prim.Native.Nat.{ℕ, zero, suc, _+_, _-_, _/_, _%_, _^_, _<_, _≤_}
+use Prim.Native.Nat.{ℕ, zero, suc, _+_, _<_, _≤_}
 use mathlib.Core.Path.{_≡_, refl, sym, ap, subst, _∙_}
 use mathlib.Core.Bool.{Bool, true, false, not, _&&_}
 use mathlib.Core.List.{List, [], _∷_, map}
 use native.Mathlib.Omega.{arith}
 use native.Mathlib.Decide.{ℕ-discrete}
-use lib.Dec.{eqb}
 use lib.ListN.{length, getD}
 use lib.Seq.{slice}
 use Rattle.laws.specs.Bools.{and-both, TrueIff}
@@ -20,16 +19,16 @@ use Rattle.rules.proofs.GoodFacts.{Good}
 use Rattle.rules.proofs.Good.{good}
 use Rattle.rules.proofs.TreeKinds.{_&_, Each, each-at}
 use Rattle.checklaws.specs.Bits.{bit, Shows}
-use Rattle.grammar.specs.FieldList.{Entry, entry, wordOf, codeOf, Listed}
+use Rattle.grammar.specs.FieldList.{entry, wordOf}
 use Rattle.writing.specs.Spell.{lastDigit, decimalBefore, decimalOf, madeUpField}
-use Rattle.fieldlist.specs.Answer.{words, Spans, entriesOf, RightRows}
+use Rattle.fieldlist.specs.Answer.{words, Spans, entriesOf}
 use Rattle.fieldlist.specs.Answer as fieldlist
 use Rattle.fieldlist.specs.declared.FieldRows.{FieldRows}
 use Rattle.fieldlist.proofs.Uses.{is-right, is-wrong, codes-of}
 use Rattle.writer.specs.declared.Text.{Text}
 use Rattle.writer.specs.declared.Text.the-variants.{Bytes, Refused}
 use Rattle.writer.specs.Walk.{fieldsFor}
-use Rattle.writer.specs.Answer.{everyName, verdict, codesOf, Words, made-up, listed, textOf, Answers, written, bad-image, bad-list, other-codes, too-short, Said, Spelling, SameCodes, FieldsSay}
+use Rattle.writer.specs.Answer.{everyName, verdict, codesOf, Words, made-up, listed, Answers, written, bad-image, bad-list, other-codes, too-short, Said, Spelling, SameCodes, FieldsSay}
 use Rattle.writer.proofs.CodeLaws.{same-count}
 
 -- ---- every name is visible
@@ -53,11 +52,14 @@ all-names : all (λ x. has x everyName) 128 ≡ true
 unfolding all has everyName upTo
 all-names = refl
 
+pub sees-every : (x : ℕ) → x < 128 → has x everyName ≡ true
+sees-every x l = all-at _ 128 x all-names l
+
 pub shows-every : Shows 18446744073709551615 18446744073709551615 everyName
 shows-every =
     record {
-      low = λ x l. all-at _ 64 x all-bits l ∙ sym (all-at _ 128 x all-names (omega arith));
-      high = λ x l. all-at _ 64 x all-bits l ∙ sym (all-at _ 128 (64 + x) all-names (omega arith));
+      low = λ x l. all-at _ 64 x all-bits l ∙ sym (sees-every x (omega arith));
+      high = λ x l. all-at _ 64 x all-bits l ∙ sym (sees-every (64 + x) (omega arith));
     }
 
 -- ---- words that are made up

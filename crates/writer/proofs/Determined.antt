@@ -1,19 +1,19 @@
 -- `write` has one answer, and leaves one thing in what is lent. Assumes nothing.
-use Prim.Native.Nat.{ℕ, zero, _<_, _≤_}
+use Prim.Native.Nat.{ℕ, _<_, _≤_}
 use mathlib.Core.Path.{_≡_, refl, sym, ap, ap₂, subst, _∙_}
-use mathlib.Core.List.{List, [], _∷_, _++_, map}
+use mathlib.Core.List.{List, [], _++_, map}
 use native.Mathlib.Omega.{arith}
 use lib.ListN.{length, drop}
 use Rattle.laws.specs.UpTo.{upTo, length-upTo}
-use Rattle.rules.specs.Image.{mostFields, fieldsOf, codeAt}
+use Rattle.rules.specs.Image.{fieldsOf, codeAt}
 use Rattle.rules.specs.declared.Verdict.{Verdict}
 use Rattle.rules.specs.declared.Verdict.the-variants.{Accepted, Refused as RefusedBy}
 use Rattle.grammar.specs.FieldList.{Entry, wordOf, codeOf, Listed, no-row}
 use Rattle.grammar.proofs.Listing.{listed-one}
 use Rattle.writing.specs.Spell.{madeUpField}
 use Rattle.writer.specs.declared.Text.{Text}
-use Rattle.writer.specs.declared.Text.the-variants.{Bytes, Refused}
-use Rattle.writer.specs.Answer.{verdict, codesOf, Words, made-up, listed, textOf, Answers, written, bad-image, bad-list, other-codes, too-short}
+use Rattle.writer.specs.declared.Text.the-variants.{Bytes}
+use Rattle.writer.specs.Answer.{codesOf, Words, made-up, listed, textOf, Answers, written, bad-image, bad-list, other-codes, too-short}
 
 -- ---- the fields' words
 

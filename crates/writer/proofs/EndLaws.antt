@@ -1,27 +1,26 @@
 -- The numbers of how expressions end and begin, node by node; and what is asked of them is what is asked of the tree. Assumes nothing.
-use Prim.Native.Nat.{ℕ, zero, suc, _+_, _*_, _/_, _%_, _^_, _<_, _≤_}
+use Prim.Native.Nat.{ℕ, _+_, _*_, _<_, _≤_}
 use mathlib.Core.Path.{_≡_, refl, sym, ap, subst, _∙_}
 use mathlib.Core.Bool.{Bool, true, false, cond, not, _&&_, _||_}
-use mathlib.Core.Option.{Option, none, some}
-use mathlib.Core.List.{List, [], _∷_}
+use mathlib.Core.Option.{some}
+use mathlib.Core.List.{List}
 use mathlib.Core.Logic.{⊎-elim}
 use native.Mathlib.Omega.{arith}
 use native.Mathlib.Nat.{eq-or-lt-of-le}
-use lib.Dec.{eqb, ltb, leb}
+use lib.Dec.{eqb, ltb}
 use lib.ListN.{length, getD, set, length-set}
 use lib.Seq.{getD-set-same, getD-set-other}
 use borrow.Author.Tests.{eq-eqb, ne-eqb, lt-ltb, le-ltb, ltb-true, ltb-false}
 use Rattle.rules.specs.declared.Node.{Node}
 use Rattle.rules.specs.declared.Row.{Row}
 use Rattle.rules.specs.declared.Kind.the-variants.{Exp as anExp}
-use Rattle.rules.specs.Syntax.{Exp, field, int, diff, null, ref, select, proc}
-use Rattle.rules.specs.Image.{Tree, isNone, isExp, isTest, isCmd, tags, rowOf, kindOf, halves, expOf, expIn, makeBy, nodesOf, nodeAt, treeAt, rowIn, lineOf, lineIn}
+use Rattle.rules.specs.Image.{tags, rowOf, kindOf, halves, expOf, makeBy, nodesOf, nodeAt, treeAt, rowIn, lineOf, lineIn}
 use Rattle.rules.proofs.Trees.{expAt, lower, treeAt-is, tree-int, tree-diff, tree-select, tree-proc}
 use Rattle.rules.proofs.GoodFacts.{Good, GoodRow}
 use Rattle.rules.proofs.TreeKinds.{_&_, tag-cases, exp-cases, is-exp}
 use Rattle.evallaws.proofs.SameTables.{tree-made}
 use Rattle.image.specs.Read.{NodeRead}
-use Rattle.grammar.specs.Grammar.{Top, operand, selection, difference, procedure, Ending, closed, bare}
+use Rattle.grammar.specs.Grammar.{Ending, closed}
 use Rattle.writing.specs.WriteTokens.{topOf, isDifference, isSelection, isBare, notDotted, endOf, opensLeft, opensDot, signed, writeExp}
 use Rattle.writing.proofs.SignFirst.{signOf, sign-of}
 use Rattle.writer.specs.declared.forms.How.{How}

@@ -1,20 +1,17 @@
 -- The table of forms writes what the definitions write, tag by tag. Assumes nothing.
-use Prim.Native.Nat.{ℕ, zero, suc, _<_}
-use mathlib.Core.Path.{_≡_, refl, sym, ap, subst, _∙_}
-use mathlib.Core.Bool.{Bool, true, false}
+use Prim.Native.Nat.{ℕ, _<_}
+use mathlib.Core.Path.{_≡_, refl, sym, ap, _∙_}
+use mathlib.Core.Bool.{Bool, false}
 use mathlib.Core.Option.{Option, none, some}
 use mathlib.Core.List.{List, [], _∷_, _++_, append-assoc, append-nil}
-use native.Mathlib.Omega.{arith}
 use Rattle.rules.specs.declared.Node.{Node}
 use Rattle.rules.specs.declared.Row.{Row}
 use Rattle.rules.specs.declared.Kind.the-variants.{Exp as anExp, Test as aTest, Cmd as aCmd}
-use Rattle.rules.specs.Syntax.{Exp, Test, Cmd}
-use Rattle.rules.specs.Image.{Tree, isNone, isExp, isTest, isCmd, tags, rowOf, kindOf, halves, expOf, testOf, cmdOf, makeBy, nodesOf, nodeAt, treeAt, cmdAt, rowIn, lineOf, lineIn}
+use Rattle.rules.specs.Image.{Tree, tags, rowOf, kindOf, halves, expOf, testOf, cmdOf, makeBy, nodesOf, nodeAt, treeAt, cmdAt, rowIn, lineOf, lineIn}
 use Rattle.rules.proofs.Trees.{expAt, testAt, tree-int}
 use Rattle.rules.proofs.GoodFacts.{Good, GoodRow}
 use Rattle.rules.proofs.TreeKinds.{_&_, tag-cases, is-exp, is-test, is-cmd}
 use Rattle.evallaws.proofs.SameTables.{tree-made}
-use Rattle.grammar.specs.Tokens.{Tok}
 use Rattle.grammar.specs.Grammar.{Ended, anOperand, noOperand}
 use Rattle.writing.specs.WriteTokens.{grouped, writeInt, writeExp, writeTest, writeBehind, endedBy}
 use Rattle.pen.specs.Behind.{markOf}

@@ -3,10 +3,9 @@
 -- that is made up, a0, a1, .., with the image's codes. Assumes nothing.
 use Prim.Native.Nat.{ℕ, _≤_}
 use mathlib.Core.Path.{_≡_, refl, sym, ap, subst, _∙_}
-use mathlib.Core.Option.{some}
-use mathlib.Core.List.{List, [], _∷_, _++_, map}
+use mathlib.Core.List.{List, [], _∷_, map}
 use native.Mathlib.Omega.{arith}
-use lib.ListN.{length, take, drop, getElem?}
+use lib.ListN.{length, take, drop}
 use lib.Seq.{take-at}
 use Rattle.laws.specs.UpTo.{upTo, length-upTo, upTo-of, same-elems}
 use Rattle.rules.specs.Syntax.{Cmd}
@@ -25,7 +24,7 @@ use Rattle.writing.specs.Spell.{madeUp, madeUpField, entriesFor, listOf}
 use Rattle.writing.specs.Renumber.{namesWritten, byAppearance}
 use Rattle.writing.proofs.MadeUp.{variables-made-up, fields-made-up}
 use Rattle.writing.proofs.ListsBack.{lists-back, words-of, codes-of, length-of}
-use Rattle.writing.proofs.ReadsBack.{textOf as spelledWith, imageOf}
+use Rattle.writing.proofs.ReadsBack.{textOf as spelledWith}
 use Rattle.writing.proofs.ImageBack.{image-back}
 use Rattle.writer.specs.declared.Text.{Text}
 use Rattle.writer.specs.declared.Text.the-variants.{Bytes, Refused}

@@ -1,27 +1,23 @@
 -- The whole text, counted and written. Assumes nothing.
 use Prim.Native.Nat.{ℕ, _+_, _-_, _<_, _≤_}
-use mathlib.Core.Path.{_≡_, refl, sym, ap, subst, _∙_}
+use mathlib.Core.Path.{_≡_, refl, ap, subst, _∙_}
 use mathlib.Core.Bool.{false}
-use mathlib.Core.List.{List, [], _∷_, _++_}
+use mathlib.Core.List.{List, _++_}
 use native.Mathlib.Omega.{arith}
-use native.Mathlib.Nat.{zero-add}
-use lib.ListN.{length, take, drop}
+use lib.ListN.{length, drop}
 use lib.Seq.{sets, sets-eq}
 use Rattle.rules.specs.Image.{nodesOf, nodeAt, treeAt, cmdAt}
 use Rattle.rules.specs.Script.{rootOf}
 use Rattle.rules.proofs.GoodFacts.{Good}
-use Rattle.grammar.specs.Grammar.{noOperand}
-use Rattle.writing.specs.WriteTokens.{writeBehind}
-use Rattle.pen.specs.Behind.{behind, lastKind}
-use Rattle.pen.specs.Draws.{Drawn, Writes}
+use Rattle.pen.specs.Behind.{behind}
+use Rattle.pen.specs.Draws.{Drawn}
 use Rattle.pen.specs.declared.Pen.{Pen}
 use Rattle.pen.specs.declared.Pen.the-variants.{At, Over}
 use Rattle.pen.proofs.SpellLaws.{command-spells}
-use Rattle.writer.specs.declared.Text.{Text}
 use Rattle.writer.specs.declared.Text.the-variants.{Bytes, Refused}
 use Rattle.writer.specs.Forms.{writeTree}
 use Rattle.writer.specs.Walk.{namesFor, fieldsFor, WritesNode}
-use Rattle.writer.specs.Answer.{textOf, Said, Spelling, Counts, Counted, atOf}
+use Rattle.writer.specs.Answer.{textOf, Spelling, Counts, Counted, atOf}
 use Rattle.writer.proofs.FormLaws.{cmd-tokens}
 
 -- ---- the root's tokens from nothing on are the text

@@ -8,7 +8,6 @@ use mathlib.Core.List.{List, [], _++_, map}
 use lib.ListN.{length, getD, drop}
 use Rattle.laws.specs.Bools.{TrueIff}
 use Rattle.laws.specs.UpTo.{upTo}
-use Rattle.rules.specs.Syntax.{Cmd}
 use Rattle.rules.specs.Image.{mostNames, fieldsOf, codeAt, nodeAt, cmdAt}
 use Rattle.rules.specs.Scope.{Names}
 use Rattle.rules.specs.State.{size}

@@ -6,7 +6,6 @@ use mathlib.Core.Bool.{Bool, false, cond, _&&_, _||_}
 use mathlib.Core.List.{List}
 use lib.Dec.{eqb, leb}
 use lib.ListN.{length, getD}
-use Rattle.rules.specs.Syntax.{Exp}
 use Rattle.rules.specs.Image.{Tree, isNone, isExp, isTest, isCmd, nodesOf, nodeAt, treeAt}
 use Rattle.writing.specs.WriteTokens.{opensLeft}
 use Rattle.writing.proofs.SignFirst.{signOf}

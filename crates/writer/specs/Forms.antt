@@ -1,7 +1,6 @@
 -- How a node is written, by its tag: the clauses of `writeExp`, `writeTest` and `writeBehind` as a table. That the table writes what they do is shown in
 -- proofs/FormLaws. Assumes nothing.
 use Prim.Native.Nat.{ℕ}
-use mathlib.Core.Path.{_≡_}
 use mathlib.Core.Bool.{Bool, true, false, cond, _||_}
 use mathlib.Core.List.{List, [], _∷_, _++_}
 use lib.Dec.{eqb}

@@ -3,7 +3,8 @@ use Prim.Native.Nat.{ℕ, _+_, _*_, _<_}
 use mathlib.Core.Path.{_∙_}
 use borrow.Author.Needs.{needs}
 use Rattle.writer.specs.Walk.{wordWeight}
-use Rattle.writer.proofs.WalkLaws.{ways, child-marked, child-grouped, child-plain, falls-a, falls-b, falls-c, word-a, word-b, word-c, node-formed}
+use Rattle.writer.proofs.WordLaws.{falls-a, falls-b, falls-c, word-a, word-b, word-c}
+use Rattle.writer.proofs.WalkLaws.{ways, child-marked, child-grouped, child-plain, node-formed}
 use borrow.Fn.Kinds.{In}
 use borrow.Fn.PlainCycle.{Measures, is, falls, and}
 use Rattle.writer.proofs.walk.put_child.Reads as put-child

@@ -1,5 +1,5 @@
 -- `writer::walk::compares` meets its contract. Assumes nothing.
-use Rattle.writer.proofs.WalkLaws.{tests}
+use Rattle.writer.proofs.TestLaws.{tests}
 use borrow.Author.Needs.{needs}
 use Rattle.writer.proofs.walk.compares.Statement.{statement}
 use Rattle.writer.proofs.walk.compares.Tie as tie

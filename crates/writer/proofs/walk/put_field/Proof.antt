@@ -1,5 +1,5 @@
 -- `writer::walk::put_field` meets its contract. Assumes nothing.
-use Rattle.writer.proofs.WalkLaws.{span-forward, span-within, field-writes}
+use Rattle.writer.proofs.TokenLaws.{span-forward, span-within, field-writes}
 use borrow.Author.Needs.{needs}
 use Rattle.writer.proofs.walk.put_field.Statement.{statement}
 use Rattle.writer.proofs.walk.put_field.Tie as tie

@@ -1,6 +1,6 @@
 -- `writer::walk::put_int` meets its contract. Assumes nothing.
 use Rattle.rules.specs.Image.{halves}
-use Rattle.writer.proofs.WalkLaws.{int-plain, int-signed}
+use Rattle.writer.proofs.TokenLaws.{int-plain, int-signed}
 use borrow.Author.Needs.{needs}
 use Rattle.writer.proofs.walk.put_int.Statement.{statement}
 use Rattle.writer.proofs.walk.put_int.Tie as tie

@@ -1,5 +1,5 @@
 -- `writer::walk::test_before` meets its contract. Assumes nothing.
-use Rattle.writer.proofs.WalkLaws.{tests}
+use Rattle.writer.proofs.TestLaws.{tests}
 use borrow.Author.Needs.{needs}
 use Rattle.writer.proofs.walk.test_before.Statement.{statement}
 use Rattle.writer.proofs.walk.test_before.Tie as tie
