@@ -24,7 +24,7 @@ use Rattle.writing.specs.Spell.{madeUp, madeUpField, entriesFor, listOf}
 use Rattle.writing.specs.Renumber.{namesWritten, byAppearance}
 use Rattle.writing.proofs.MadeUp.{variables-made-up, fields-made-up}
 use Rattle.writing.proofs.ListsBack.{lists-back, words-of, codes-of, length-of}
-use Rattle.writing.proofs.ReadsBack.{textOf as spelledWith}
+use Rattle.writing.specs.Back.{textOf as spelledWith}
 use Rattle.writing.proofs.ImageBack.{image-back}
 use Rattle.writer.specs.declared.Text.{Text}
 use Rattle.writer.specs.declared.Text.the-variants.{Bytes, Refused}
