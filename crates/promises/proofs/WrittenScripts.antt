@@ -4,7 +4,7 @@
 use Prim.Native.Nat.{ℕ, _≤_}
 use mathlib.Core.Path.{_≡_, refl, sym, ap, subst, _∙_}
 use mathlib.Core.Bool.{true}
-use mathlib.Core.Logic.{_↔_, _⊎_}
+use mathlib.Core.Logic.{_↔_, _⊎_, inl, inr}
 use mathlib.Core.List.{List, [], _∷_, map, _++_}
 use native.Mathlib.Omega.{arith}
 use lib.ListN.{length, drop}
@@ -18,12 +18,13 @@ use Rattle.rules.specs.Refusals.{check}
 use Rattle.rules.specs.Published.{Increasing, Published, image}
 use Rattle.grammar.specs.Classes.{among}
 use Rattle.grammar.specs.Tokens.{Tok}
+use Rattle.grammar.specs.Places.{Piece, Spot, spot}
 use Rattle.grammar.specs.FieldList.{Entry, codeOf, Different, Listed}
 use Rattle.grammar.specs.Grammar.{Writes, aCommand}
 use Rattle.grammar.specs.Nodes.{sizeCmd, tableCmd}
 use Rattle.grammar.specs.Proper.{ProperCmd, Field, Name}
 use Rattle.grammar.specs.Names.{namesIn}
-use Rattle.grammar.specs.Reads.{mostBytes, Lent, Reads, Refuses}
+use Rattle.grammar.specs.Reads.{mostBytes, Right, Wrong, Lent, Reads, Refuses}
 use Rattle.reading.specs.Levels as Levels
 use Rattle.writing.specs.WriteTokens.{writeCmd, parentheses}
 use Rattle.writing.specs.Spell.{VariableName, Each, listOf}
@@ -35,8 +36,8 @@ use Rattle.reader.specs.Says.{ReadSays, cleared, wordsAfter}
 use Rattle.grammar.proofs.TableRight.{Judged, is-accepted, is-undeclared}
 use Rattle.grammar.proofs.ReadChecks as ReadChecks
 use Rattle.grammar.proofs.RefusalNumbers as RefusalNumbers
-use Rattle.grammar.proofs.Answers.{refused-one}
-use Rattle.reading.proofs.Answered.{Answer, answered, one-image, image-or-refusal}
+use Rattle.grammar.proofs.Answers.{refused-one, right-or-wrong}
+use Rattle.reading.proofs.Answered.{Answer, an-image, a-refusal, answered, one-image, image-or-refusal}
 use Rattle.reading.proofs.OneReading.{one-tree}
 use Rattle.reading.proofs.SameTexts as SameTexts
 use Rattle.writing.proofs.Fewest as Fewest
@@ -47,8 +48,13 @@ use Rattle.writing.proofs.ReadAgain as ReadAgain
 -- ======== one answer, always
 
 -- whatever is lent: an image or a refusal
-pub an-answer : (out work : ℕ) (list text : List ℕ) → Answer out work list text
-an-answer = answered
+pub an-answer : (out work : ℕ) (list text : List ℕ)
+    → ((img : List ℕ) × Reads out work list text img) ⊎ ((k : ℕ) × (l : ℕ) × Refuses out work list text k l)
+an-answer out work list text = go (answered out work list text)
+  where
+    go : Answer out work list text → ((img : List ℕ) × Reads out work list text img) ⊎ ((k : ℕ) × (l : ℕ) × Refuses out work list text k l)
+    go (an-image {img} r) = inl (img, r)
+    go (a-refusal {k} {l} r) = inr (k, l, r)
 
 -- two results that satisfy the contract are equal: the answer, every lent word and every byte of the output
 pub read-decides : (list text ws out : List ℕ) (r q : Reading) (us vs outr outq : List ℕ)
@@ -110,6 +116,11 @@ module _ (list text ws out ws′ out′ : List ℕ) where
   refusal-only r a k l e =
       let b = subst (λ q. ReadSays list text q ws out ws′ out′) e a in
       b .refuses
+
+-- "at the first place": no beginning that is right reaches past a place that is wrong
+pub first-place : {fields : List Entry} (before : List Spot) (l : ℕ) {k : ℕ} {p : Piece} (after : List Spot) {us ts : List Tok}
+    → Right fields before us → Wrong fields before us p k → Right fields (before ++ (spot l p ∷ after)) ts → ⊥
+first-place = right-or-wrong
 
 -- the numbers: 20, 21, 27 and 28 give line 0, which is no line; 22 to 26 the line of a place, from 1 on
 pub nine-refusals : {out work : ℕ} {list text : List ℕ} {k l : ℕ} → Refuses out work list text k l
