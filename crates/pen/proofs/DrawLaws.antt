@@ -8,8 +8,8 @@ use lib.ListN.{length, take, set, length-append}
 use lib.Seq.{sets, take-append-le}
 use Rattle.grammar.specs.Tokens.{Tok, kindOf}
 use Rattle.writing.specs.Spell.{bytesFor}
-use Rattle.pen.specs.Behind.{gapAt, behind, lastKind, markOf}
-use Rattle.pen.specs.Draws.{Drawn, Puts, Gaps, Token, Writes, Marks, kinded}
+use Rattle.pen.specs.Behind.{gapAt, behind, lastKind}
+use Rattle.pen.specs.Draws.{Drawn, Puts, Gaps, Token, Writes, kinded}
 use Rattle.pen.specs.declared.Pen.{Pen}
 use Rattle.pen.specs.declared.Pen.the-variants.{At, Over}
 

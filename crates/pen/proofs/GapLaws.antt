@@ -1,12 +1,10 @@
 -- The gap before a token, path by path. Assumes nothing.
-use Prim.Native.Nat.{ℕ, zero, suc, _+_, _≤_, _<_}
-use mathlib.Core.Path.{_≡_, refl, sym, ap, _∙_}
-use mathlib.Core.Bool.{Bool, true, false, cond, _&&_, _||_}
-use mathlib.Core.List.{List, [], _∷_, _++_}
+use Prim.Native.Nat.{ℕ, zero, suc}
+use mathlib.Core.Path.{_≡_, refl, sym, _∙_}
+use mathlib.Core.Bool.{Bool, true, false, _||_}
+use mathlib.Core.List.{List, [], _∷_}
 use native.Mathlib.Omega.{arith}
 use lib.Dec.{eqb}
-use lib.ListN.{length}
-use lib.Seq.{sets}
 use borrow.Author.Tests.{eq-eqb, ne-eqb}
 use Rattle.grammar.specs.Classes.{among}
 use Rattle.writing.specs.Spell.{opening, closing, called, tight}
@@ -14,7 +12,6 @@ use Rattle.pen.specs.Behind.{gapAt}
 use Rattle.pen.specs.Draws.{Drawn, Puts, Gaps}
 use Rattle.pen.specs.declared.Pen.{Pen}
 use Rattle.pen.specs.declared.Pen.the-variants.{At, Over}
-use Rattle.pen.proofs.DrawLaws.{drawn-none}
 
 -- ---- kinds in a list
 

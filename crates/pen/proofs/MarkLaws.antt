@@ -1,11 +1,11 @@
 -- The bytes of a mark, and a mark as a token. Assumes nothing.
 use Prim.Native.Nat.{ℕ, zero, suc}
-use mathlib.Core.Path.{_≡_, refl, sym, ap, _∙_}
+use mathlib.Core.Path.{_≡_, refl}
 use mathlib.Core.List.{List, [], _∷_}
 use lib.Seq.{slice}
 use borrow.Author.Tests.{ne-eqb}
 use Rattle.grammar.specs.Tokens.{mark, kindOf, Spelling, spelling}
-use Rattle.writing.specs.Spell.{marks, spelledAs, bytesFor}
+use Rattle.writing.specs.Spell.{spelledAs, bytesFor}
 use Rattle.pen.specs.Behind.{markOf}
 use Rattle.pen.specs.Draws.{Token, Writes, Marks, Spelled}
 use Rattle.pen.specs.declared.Pen.{Pen}

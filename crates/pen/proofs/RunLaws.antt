@@ -1,10 +1,10 @@
 -- A run of bytes, byte by byte. Assumes nothing.
 use Prim.Native.Nat.{ℕ, suc, _+_, _≤_, _<_}
-use mathlib.Core.Path.{_≡_, refl, sym, ap, _∙_}
+use mathlib.Core.Path.{_≡_, sym, ap}
 use mathlib.Core.List.{List, [], _∷_, _++_}
 use native.Mathlib.Omega.{arith}
 use native.Mathlib.Numerals.{add-one}
-use lib.ListN.{length, getD, take, drop}
+use lib.ListN.{length, getD, take}
 use lib.Seq.{slice, slice-empty, take-suc, drop-append-le, length-take-le}
 use Rattle.pen.specs.Draws.{Puts}
 use Rattle.pen.specs.declared.Pen.{Pen}

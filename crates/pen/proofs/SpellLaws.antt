@@ -10,7 +10,7 @@ use Rattle.rules.proofs.TreeKinds.{_&_}
 use Rattle.grammar.specs.Tokens.{Tok, name, fieldName, number, mark, kindOf, sign}
 use Rattle.grammar.specs.Grammar.{Ended, noOperand}
 use Rattle.writing.specs.WriteTokens.{isDifference, notDotted, topOf, grouped, opensLeft, opensDot, signed, endedBy, writeInt, writeExp, writeTest, writeBehind, writeCmd}
-use Rattle.writing.specs.Spell.{bytesFor, tight, gap, spell}
+use Rattle.writing.specs.Spell.{bytesFor, gap, spell}
 use Rattle.pen.specs.Behind.{gapAt, behind}
 
 -- ---- tokens that have a kind

@@ -1,7 +1,4 @@
 // Reserved words and symbols by their kinds.
-ghost use mathlib.Core.Path.{_≡_};
-ghost use Prim.Native.Nat.{_≤_};
-ghost use lib.ListN.{length};
 ghost use Rattle.pen.specs.Draws.{Spelled};
 
 // The first `len` of these bytes.

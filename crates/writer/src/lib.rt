@@ -11,8 +11,7 @@ mod walk;
 
 use rules::SIZE;
 use rules::Verdict;
-ghost use Rattle.rules.proofs.GoodFacts.{Good};
-ghost use Rattle.writer.specs.Answer.{Answers, FieldsSay};
+ghost use Rattle.writer.specs.Answer.{Answers};
 
 pub enum Text {
     // so many bytes

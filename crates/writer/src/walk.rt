@@ -11,7 +11,6 @@ use rules::Node;
 ghost use mathlib.Core.Path.{_≡_};
 ghost use mathlib.Core.Option.{some};
 ghost use Prim.Native.Nat.{_<_, _≤_};
-ghost use lib.ListN.{length};
 ghost use Rattle.rules.specs.Image.{nodesOf, nodeAt, treeAt, fieldsOf, kindOf, halves, mostFields};
 ghost use Rattle.rules.specs.declared.Kind.the-variants.{Test as aTest};
 ghost use Rattle.rules.proofs.GoodFacts.{Good};
