@@ -1,6 +1,7 @@
 /* Flagcopper: a proved interpreter for MiniOO scripts (target/staticlib/libcapi.a, made by `rt staticlib capi`).
  *
- * Three functions check a script, run it, and run it with a row for each step; one makes the script from MiniOO text.
+ * Three functions check a script, run it, and run it with a row for each step; one makes the script from MiniOO text,
+ * one shows a script as text.
  * Each answer, and every word of what the caller lends, is the definitions' for every input: any bytes, any choices, any
  * workspace. They keep nothing between calls, allocate nothing and never stop the program. Give a call some 200 KB of
  * stack: of the scripts measured, the deepest used 164 KB (docs/CHECK.md).
@@ -129,6 +130,28 @@ size_t flagcopper_read_words(size_t text_bytes);
  * but 20, 28 and 21 leave them as they were; those past them are neither read nor written. */
 flagcopper_reading flagcopper_read(const uint8_t *text, size_t text_bytes, const uint8_t *list, size_t list_bytes,
                                    uint32_t *words, size_t word_count, uint8_t *output, size_t output_bytes);
+
+/* ---- images as text: what an old image says, as MiniOO text with the fewest parentheses
+ *
+ * Names are A0, A1, .. by their numbers in the image. The fields have the words of a list, whose codes must be the image's, or,
+ * with a list of no bytes, a0, a1, .. in their order. What is written is read as the same tree.
+ *
+ * number, in this order
+ *   30  the image breaks one of the rules 1 to 8 of the check (scoping, 9, doesn't matter here)
+ *   31  the list of fields is wrong
+ *   32  its codes aren't the image's
+ *   33  the text is longer than the output
+ */
+typedef struct {
+    uint32_t verdict; /* FLAGCOPPER_ACCEPTED: there is a text; FLAGCOPPER_REFUSED */
+    uint32_t number;  /* the refusal; 0 where there is a text */
+    size_t length;    /* bytes of the text; 0 where refused */
+} flagcopper_text;
+
+/* The text is the first `length` bytes of the output, and no other byte of it is written; a refusal writes none. It recurs once
+ * for each level of the script: give it 2 MB of stack, of which the deepest image used 1.84 (docs/DECISIONS.md 7.46). */
+flagcopper_text flagcopper_write(const uint8_t *image, size_t image_bytes, const uint8_t *list, size_t list_bytes,
+                                 uint8_t *output, size_t output_bytes);
 
 /* ---- the state, read back from the words of a run (docs/WORKSPACE.md)
  *

@@ -2,13 +2,13 @@
  * output, until the input ends. The other side is src/library/bridged.rs.
  *
  * A call is a struct of words and then two things that are given and two that are lent, each of as many bytes as the struct says:
- * script, choices, workspace and rows, or text, list, words and output. The answer is as many words as the struct has, then the two
+ * script, choices, workspace and rows, or text, list, words and output, or image, list, nothing and output. The answer is as many words as the struct has, then the two
  * that were lent, whole, so that what the library must not touch is seen too. */
 #include "flagcopper.h"
 #include <stdio.h>
 #include <stdlib.h>
 
-enum { SIZE = 1, CHECK = 2, RUN = 3, TRACE = 4, READ_WORDS = 5, READ = 6 };
+enum { SIZE = 1, CHECK = 2, RUN = 3, TRACE = 4, READ_WORDS = 5, READ = 6, WRITE = 7 };
 
 /* Memory with so many bytes of the input: not null, not even for none. */
 static void *lent(size_t bytes) {
@@ -57,6 +57,11 @@ int main(void) {
             flagcopper_reading reading = flagcopper_read(script, call.first_given, choices, call.second_given, workspace,
                                                          call.first_lent / sizeof(uint32_t), rows, call.second_lent);
             const uint64_t answer[6] = {reading.verdict, reading.number, reading.line, reading.length};
+            give(answer, sizeof answer);
+        } else if (call.function == WRITE) {
+            flagcopper_text text =
+                flagcopper_write(script, call.first_given, choices, call.second_given, rows, call.second_lent);
+            const uint64_t answer[6] = {text.verdict, text.number, text.length};
             give(answer, sizeof answer);
         } else {
             return EXIT_FAILURE;

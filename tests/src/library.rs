@@ -38,6 +38,14 @@ struct RawReading {
     length: usize,
 }
 
+#[derive(Debug)]
+#[repr(C)]
+struct RawText {
+    verdict: u32,
+    number: u32,
+    length: usize,
+}
+
 /// What the library says for no place and no node.
 const NOWHERE: u32 = u32::MAX;
 
@@ -49,6 +57,15 @@ pub fn size() -> usize {
 /// The words that the library itself asks for to read a text of so many bytes.
 pub fn read_words(text_bytes: usize) -> usize {
     reached::read_words(text_bytes)
+}
+
+/// An image as text, by the words of a list or by words that are made up: the bytes that it takes in `out`, or the refusal's number.
+pub fn write(image: &[u8], list: &[u8], out: &mut [u8]) -> Result<usize, u32> {
+    match reached::write(image, list, out) {
+        RawText { verdict: 1, number: 0, length } => Ok(length),
+        RawText { verdict: 2, number, length: 0 } => Err(number),
+        neither => panic!("neither a text nor a refusal: {neither:?}"),
+    }
 }
 
 pub struct Library;

@@ -1,7 +1,7 @@
 //! The library on a machine whose programs can't link it: each call goes to `bridge.c`, which `build.rs` built with the library and which
 //! runs under the kit's emulator, one for each thread. It gets all that is lent and sends it back whole.
 
-use super::{RawAnswer, RawReading, RawVerdict};
+use super::{RawAnswer, RawReading, RawText, RawVerdict};
 use crate::x86::command;
 use std::cell::RefCell;
 use std::io::{Read, Result, Write};
@@ -16,6 +16,7 @@ enum Function {
     Trace = 4,
     ReadWords = 5,
     Read = 6,
+    Write = 7,
 }
 
 struct Bridge(Child);
@@ -152,4 +153,9 @@ pub fn read_words(text_bytes: usize) -> usize {
 pub fn read(text: &[u8], list: &[u8], work: &mut [u32], out: &mut [u8]) -> RawReading {
     let [verdict, number, line, length, ..] = call(Function::Read, 0, [text, list], work, out);
     RawReading { verdict: narrow(verdict), number: narrow(number), line: line as usize, length: length as usize }
+}
+
+pub fn write(image: &[u8], list: &[u8], out: &mut [u8]) -> RawText {
+    let [verdict, number, length, ..] = call(Function::Write, 0, [image, list], nothing(), out);
+    RawText { verdict: narrow(verdict), number: narrow(number), length: length as usize }
 }

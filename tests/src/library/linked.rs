@@ -1,7 +1,7 @@
 //! The library as it is linked, on x86-64. The only file with `unsafe`: each call passes pointers and lengths of slices that
 //! live through the call, and what is lent to be written is lent mutably and to nobody else.
 
-use super::{RawAnswer, RawReading, RawVerdict};
+use super::{RawAnswer, RawReading, RawText, RawVerdict};
 
 extern "C" {
     fn flagcopper_size() -> usize;
@@ -35,6 +35,14 @@ extern "C" {
         out: *mut u8,
         out_bytes: usize,
     ) -> RawReading;
+    fn flagcopper_write(
+        image: *const u8,
+        image_bytes: usize,
+        list: *const u8,
+        list_bytes: usize,
+        out: *mut u8,
+        out_bytes: usize,
+    ) -> RawText;
 }
 
 pub fn size() -> usize {
@@ -90,4 +98,8 @@ pub fn read(text: &[u8], list: &[u8], work: &mut [u32], out: &mut [u8]) -> RawRe
             out.len(),
         )
     }
+}
+
+pub fn write(image: &[u8], list: &[u8], out: &mut [u8]) -> RawText {
+    unsafe { flagcopper_write(image.as_ptr(), image.len(), list.as_ptr(), list.len(), out.as_mut_ptr(), out.len()) }
 }
