@@ -4,7 +4,7 @@
  * one shows a script as text.
  * Each answer, and every word of what the caller lends, is the definitions' for every input: any bytes, any choices, any
  * workspace. They keep nothing between calls, allocate nothing and never stop the program. Give a call some 200 KB of
- * stack: of the scripts measured, the deepest used 164 KB (docs/CHECK.md).
+ * stack, flagcopper_write 4 MB: of the scripts measured, the deepest used 164 KB in a run and 1.84 MB there (docs/CHECK.md).
  *
  * C can't say what the proofs rely on, so the caller owes it: a pointer isn't null, not even with length 0, and points
  * to as many aligned elements as its length says; what is lent to be written (workspace, rows, words, output) overlaps
@@ -134,7 +134,9 @@ flagcopper_reading flagcopper_read(const uint8_t *text, size_t text_bytes, const
 /* ---- images as text: what an old image says, as MiniOO text with the fewest parentheses
  *
  * Names are A0, A1, .. by their numbers in the image. The fields have the words of a list, whose codes must be the image's, or,
- * with a list of no bytes, a0, a1, .. in their order. What is written is read as the same tree.
+ * with a list of no bytes, a0, a1, .. in their order. Read with the same list (where it had no bytes: with
+ * rows a0, a1, .. and the image's codes), the text gives the same tree, its nodes children first, its names numbered by
+ * first appearance.
  *
  * number, in this order
  *   30  the image breaks one of the rules 1 to 8 of the check (scoping, 9, doesn't matter here)
@@ -149,7 +151,7 @@ typedef struct {
 } flagcopper_text;
 
 /* The text is the first `length` bytes of the output, and no other byte of it is written; a refusal writes none. It recurs once
- * for each level of the script: give it 2 MB of stack, of which the deepest image used 1.84 (docs/DECISIONS.md 7.46). */
+ * for each level of the script (docs/DECISIONS.md 7.46), so give it 4 MB of stack. */
 flagcopper_text flagcopper_write(const uint8_t *image, size_t image_bytes, const uint8_t *list, size_t list_bytes,
                                  uint8_t *output, size_t output_bytes);
 

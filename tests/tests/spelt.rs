@@ -3,6 +3,7 @@
 #![cfg(feature = "library")]
 
 use flagcopper_tests::generate::written::{printed, Length};
+use flagcopper_tests::image::Image;
 use flagcopper_tests::library::{write, Library};
 use flagcopper_tests::random::Random;
 use flagcopper_tests::subject::{reading_words, Reader, Reading, LARGEST_IMAGE};
@@ -77,4 +78,18 @@ fn written_and_read_again() {
         }
     }
     assert!(images > 1_000, "{images} images");
+}
+
+/// An image that no text gives: three names of which the last is used, eleven fields, and the node of the field before that of the name.
+#[test]
+fn an_image_that_was_not_read() {
+    let codes: Vec<u16> = (1..=11).collect();
+    let nodes = [[1, 11, 0, 0], [5, 2, 0, 0], [2, 1, 0, 0], [36, 1, 0, 2]];
+    let old = Image { codes: codes.clone(), names: 3, nodes: nodes.to_vec() };
+    let text = written(&old.bytes(), b"", 100).expect("a text");
+    assert_eq!(text, b"A2.a10 = 1");
+    let list: String = codes.iter().map(|code| format!("a{},{code}\n", code - 1)).collect();
+    let renumbered = [[5, 0, 0, 0], [1, 11, 0, 0], [2, 1, 0, 0], [36, 0, 1, 2]];
+    let new = Image { codes, names: 1, nodes: renumbered.to_vec() };
+    assert_eq!(read(&text, list.as_bytes()), Reading::Image(new.bytes()));
 }

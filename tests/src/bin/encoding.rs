@@ -182,6 +182,11 @@ fn by_hand() -> Vec<(&'static str, Situation, Outcome)> {
     add("a text too long and no list", &one, &[], quiet("no input\n", &one));
     let other = files(&[("fields.txt", Some("f,3\n")), ("script.img", Some("old"))]);
     add("no text", &other, &[], quiet("no input\n", &other));
+    // a folder can be opened and not read: it is no empty file
+    let as_text = files(&[("script.txt", None), ("fields.txt", Some("")), ("script.img", Some("old"))]);
+    add("a folder in the text's place", &as_text, &[], quiet("no input\n", &as_text));
+    let as_list = files(&[("script.txt", Some("skip")), ("fields.txt", None), ("script.img", Some("old"))]);
+    add("a folder in the list's place", &as_list, &[], quiet("no input\n", &as_list));
     all
 }
 
