@@ -1,12 +1,14 @@
 /* Flagcopper: a proved interpreter for MiniOO scripts (target/staticlib/libcapi.a, made by `rt staticlib capi`).
  *
- * Three functions check a script, run it, and run it with a row for each step. Each answer, and every word of what the
- * caller lends, is the definitions' for every input: any bytes, any choices, any workspace. They keep nothing between
- * calls, allocate nothing and never stop the program. Give a call some 200 KB of stack: of the scripts measured, on
- * x86-64, the deepest used 148 KB (docs/CHECK.md).
+ * Three functions check a script, run it, and run it with a row for each step; one makes the script from MiniOO text,
+ * one shows a script as text.
+ * Each answer, and every word of what the caller lends, is the definitions' for every input: any bytes, any choices, any
+ * workspace. They keep nothing between calls, allocate nothing and never stop the program. Give a call some 200 KB of
+ * stack, flagcopper_write 4 MB: of the scripts measured, the deepest used 164 KB in a run and 1.84 MB there (docs/CHECK.md).
  *
  * C can't say what the proofs rely on, so the caller owes it: a pointer isn't null, not even with length 0, and points
- * to as many aligned elements as its length says; the workspace and the rows overlap nothing else that is passed. */
+ * to as many aligned elements as its length says; what is lent to be written (workspace, rows, words, output) overlaps
+ * nothing else that is passed. */
 #ifndef FLAGCOPPER_H
 #define FLAGCOPPER_H
 
@@ -89,6 +91,69 @@ flagcopper_told flagcopper_run(const uint8_t *script, size_t script_bytes, const
 /* The same, with a row for each step taken, as many whole rows as fit; the rest of the rows isn't written. */
 flagcopper_told flagcopper_trace(const uint8_t *script, size_t script_bytes, const uint8_t *choices, size_t count,
                                  uint64_t *workspace, size_t workspace_words, uint32_t *rows, size_t row_words);
+
+/* ---- written scripts: from MiniOO text and a list of fields to the script's bytes, its image
+ *
+ * The list has a row for each field, `class,3` and byte 10: its name and its attribute code, codes rising, at most 16. */
+
+/* The bytes that are lent for an image, however short it is; fewer are refused with 20. */
+#define FLAGCOPPER_IMAGE 16426
+
+/* A struct of zeros is no answer here either. Lines count from 1. Of several mistakes the first that stands in the text is
+ * told, and at one place the first of 22 to 26.
+ *
+ * number                                                           line
+ *   20  output shorter than FLAGCOPPER_IMAGE; tested before all    0
+ *   28  fewer words than flagcopper_read_words says; tested next   0
+ *   21  the list of fields is wrong; tested before the text        0
+ *   22  a byte that stands in no text                              its line
+ *   23  a word, number or symbol with which no text goes on, or
+ *       a text that ends too early                                 its line, the line of the text's end
+ *   24  a field that isn't in the list                             its line
+ *   25  a number outside 32 signed bits                            its line
+ *   26  the 129th name                                             its line
+ *   27  over 2,048 nodes, in a text that is right otherwise        0
+ */
+typedef struct {
+    uint32_t verdict; /* FLAGCOPPER_ACCEPTED: there is an image; FLAGCOPPER_REFUSED */
+    uint32_t number;  /* the refusal; 0 where there is an image */
+    size_t line;      /* 0 where there is none */
+    size_t length;    /* bytes of the image; 0 where refused */
+} flagcopper_reading;
+
+/* The words to lend for a text of so many bytes, three for each and four; SIZE_MAX where that is more. */
+size_t flagcopper_read_words(size_t text_bytes);
+
+/* Reads a written script. The image is the first `length` bytes of the output, and no other byte of it is written; a
+ * refusal writes none. Told of FLAGCOPPER_SIZE words or more, flagcopper_check accepts the image or refuses it with 9, a
+ * name used where it isn't declared: no other reason is left. Of the words the first flagcopper_read_words(text_bytes) are zero afterwards, whatever they were,
+ * but 20, 28 and 21 leave them as they were; those past them are neither read nor written. */
+flagcopper_reading flagcopper_read(const uint8_t *text, size_t text_bytes, const uint8_t *list, size_t list_bytes,
+                                   uint32_t *words, size_t word_count, uint8_t *output, size_t output_bytes);
+
+/* ---- images as text: what an old image says, as MiniOO text with the fewest parentheses
+ *
+ * Names are A0, A1, .. by their numbers in the image. The fields have the words of a list, whose codes must be the image's, or,
+ * with a list of no bytes, a0, a1, .. in their order. Read with the same list (where it had no bytes: with
+ * rows a0, a1, .. and the image's codes), the text gives the same tree, its nodes children first, its names numbered by
+ * first appearance.
+ *
+ * number, in this order
+ *   30  the image breaks one of the rules 1 to 8 of the check (scoping, 9, doesn't matter here)
+ *   31  the list of fields is wrong
+ *   32  its codes aren't the image's
+ *   33  the text is longer than the output
+ */
+typedef struct {
+    uint32_t verdict; /* FLAGCOPPER_ACCEPTED: there is a text; FLAGCOPPER_REFUSED */
+    uint32_t number;  /* the refusal; 0 where there is a text */
+    size_t length;    /* bytes of the text; 0 where refused */
+} flagcopper_text;
+
+/* The text is the first `length` bytes of the output, and no other byte of it is written; a refusal writes none. It recurs once
+ * for each level of the script (docs/DECISIONS.md 7.46), so give it 4 MB of stack. */
+flagcopper_text flagcopper_write(const uint8_t *image, size_t image_bytes, const uint8_t *list, size_t list_bytes,
+                                 uint8_t *output, size_t output_bytes);
 
 /* ---- the state, read back from the words of a run (docs/WORKSPACE.md)
  *

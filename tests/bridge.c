@@ -1,13 +1,14 @@
 /* The library's functions for callers that aren't x86-64 programs: reads calls from standard input and answers each on standard
  * output, until the input ends. The other side is src/library/bridged.rs.
  *
- * A call is a struct of words and then the script, the choices, the workspace and the rows, each as long as the struct says. The
- * answer is as many words as the struct has, then the workspace and the rows, whole, so that what the library must not touch is seen too. */
+ * A call is a struct of words and then two things that are given and two that are lent, each of as many bytes as the struct says:
+ * script, choices, workspace and rows, or text, list, words and output, or image, list, nothing and output. The answer is as many words as the struct has, then the two
+ * that were lent, whole, so that what the library must not touch is seen too. */
 #include "flagcopper.h"
 #include <stdio.h>
 #include <stdlib.h>
 
-enum { SIZE = 1, CHECK = 2, RUN = 3, TRACE = 4 };
+enum { SIZE = 1, CHECK = 2, RUN = 3, TRACE = 4, READ_WORDS = 5, READ = 6, WRITE = 7 };
 
 /* Memory with so many bytes of the input: not null, not even for none. */
 static void *lent(size_t bytes) {
@@ -31,29 +32,42 @@ static void give_told(flagcopper_told told) {
 
 int main(void) {
     struct {
-        uint64_t function, words_to_check, script_bytes, count, workspace_words, row_words;
+        uint64_t function, number, first_given, second_given, first_lent, second_lent;
     } call;
     while (fread(&call, sizeof call, 1, stdin) == 1) {
-        uint8_t *script = lent(call.script_bytes), *choices = lent(call.count);
-        uint64_t *workspace = lent(call.workspace_words * sizeof *workspace);
-        uint32_t *rows = lent(call.row_words * sizeof *rows);
+        uint8_t *script = lent(call.first_given), *choices = lent(call.second_given);
+        void *workspace = lent(call.first_lent), *rows = lent(call.second_lent);
+        size_t words = call.first_lent / sizeof(uint64_t);
         if (call.function == SIZE) {
-            const uint64_t words[6] = {flagcopper_size()};
-            give(words, sizeof words);
+            const uint64_t answer[6] = {flagcopper_size()};
+            give(answer, sizeof answer);
         } else if (call.function == CHECK) {
-            flagcopper_checked checked = flagcopper_check(script, call.script_bytes, call.words_to_check);
-            const uint64_t words[6] = {checked.verdict, checked.number, checked.place};
-            give(words, sizeof words);
+            flagcopper_checked checked = flagcopper_check(script, call.first_given, call.number);
+            const uint64_t answer[6] = {checked.verdict, checked.number, checked.place};
+            give(answer, sizeof answer);
         } else if (call.function == RUN) {
-            give_told(flagcopper_run(script, call.script_bytes, choices, call.count, workspace, call.workspace_words));
+            give_told(flagcopper_run(script, call.first_given, choices, call.second_given, workspace, words));
         } else if (call.function == TRACE) {
-            give_told(flagcopper_trace(script, call.script_bytes, choices, call.count, workspace, call.workspace_words, rows,
-                                       call.row_words));
+            give_told(flagcopper_trace(script, call.first_given, choices, call.second_given, workspace, words, rows,
+                                       call.second_lent / sizeof(uint32_t)));
+        } else if (call.function == READ_WORDS) {
+            const uint64_t answer[6] = {flagcopper_read_words(call.number)};
+            give(answer, sizeof answer);
+        } else if (call.function == READ) {
+            flagcopper_reading reading = flagcopper_read(script, call.first_given, choices, call.second_given, workspace,
+                                                         call.first_lent / sizeof(uint32_t), rows, call.second_lent);
+            const uint64_t answer[6] = {reading.verdict, reading.number, reading.line, reading.length};
+            give(answer, sizeof answer);
+        } else if (call.function == WRITE) {
+            flagcopper_text text =
+                flagcopper_write(script, call.first_given, choices, call.second_given, rows, call.second_lent);
+            const uint64_t answer[6] = {text.verdict, text.number, text.length};
+            give(answer, sizeof answer);
         } else {
             return EXIT_FAILURE;
         }
-        give(workspace, call.workspace_words * sizeof *workspace);
-        give(rows, call.row_words * sizeof *rows);
+        give(workspace, call.first_lent);
+        give(rows, call.second_lent);
         if (fflush(stdout) != 0) {
             return EXIT_FAILURE;
         }

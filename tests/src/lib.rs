@@ -4,16 +4,19 @@
 //!
 //! Reading order: `subject` (what is compared), `image`, `assemble` and `parse` (scripts), `independent` (the reference),
 //! `flat` (the measure of speed), `generate`, `search`, `compare` and `shrink`; `readback` (the state in the words of a run). For written
-//! scripts `written` (the reference), `chart` (the second opinion), `generate::written` and `reading` (their comparison).
+//! scripts `written` (the reference), `chart` (the second opinion), `generate::written` and `reading` (their comparison), `worked` (texts by hand)
+//! and `encoding` (what the program `encode` prints).
 
 pub mod arguments;
 pub mod assemble;
 pub mod chart;
 pub mod compare;
+pub mod encoding;
 pub mod flat;
 pub mod generate;
 pub mod image;
 pub mod independent;
+pub mod lanes;
 #[cfg(feature = "library")]
 pub mod library;
 pub mod parse;
@@ -23,5 +26,6 @@ pub mod reading;
 pub mod search;
 pub mod shrink;
 pub mod subject;
+pub mod worked;
 pub mod written;
 pub mod x86;

@@ -5,7 +5,7 @@ mod bridged;
 #[cfg(target_arch = "x86_64")]
 mod linked;
 
-use crate::subject::{Answer, Refusal, Subject, Verdict};
+use crate::subject::{Answer, Reader, Reading, Refusal, Subject, Verdict};
 #[cfg(not(target_arch = "x86_64"))]
 use bridged as reached;
 #[cfg(target_arch = "x86_64")]
@@ -29,12 +29,43 @@ struct RawAnswer {
     steps: usize,
 }
 
+#[derive(Debug)]
+#[repr(C)]
+struct RawReading {
+    verdict: u32,
+    number: u32,
+    line: usize,
+    length: usize,
+}
+
+#[derive(Debug)]
+#[repr(C)]
+struct RawText {
+    verdict: u32,
+    number: u32,
+    length: usize,
+}
+
 /// What the library says for no place and no node.
 const NOWHERE: u32 = u32::MAX;
 
 /// The size that the library itself names.
 pub fn size() -> usize {
     reached::size()
+}
+
+/// The words that the library itself asks for to read a text of so many bytes.
+pub fn read_words(text_bytes: usize) -> usize {
+    reached::read_words(text_bytes)
+}
+
+/// An image as text, by the words of a list or by words that are made up: the bytes that it takes in `out`, or the refusal's number.
+pub fn write(image: &[u8], list: &[u8], out: &mut [u8]) -> Result<usize, u32> {
+    match reached::write(image, list, out) {
+        RawText { verdict: 1, number: 0, length } => Ok(length),
+        RawText { verdict: 2, number, length: 0 } => Err(number),
+        neither => panic!("neither a text nor a refusal: {neither:?}"),
+    }
 }
 
 pub struct Library;
@@ -54,6 +85,18 @@ impl Subject for Library {
 
     fn trace(&self, script: &[u8], choices: &[u8], workspace: &mut [u64], rows: &mut [u32]) -> Answer {
         answer(reached::trace(script, choices, workspace, rows))
+    }
+}
+
+impl Reader for Library {
+    fn read(&self, text: &[u8], list: &[u8], work: &mut [u32], out: &mut [u8]) -> Reading {
+        match reached::read(text, list, work, out) {
+            RawReading { verdict: 1, number: 0, line: 0, length } => Reading::Image(out[..length].to_vec()),
+            RawReading { verdict: 2, number, line, length: 0 } => {
+                Reading::Refused { number, line: line.try_into().expect("as many lines as the tests have") }
+            }
+            neither => panic!("neither an image nor a refusal: {neither:?}"),
+        }
     }
 }
 

@@ -82,10 +82,13 @@ pub trait Reader {
     fn read(&self, text: &[u8], list: &[u8], work: &mut [u32], out: &mut [u8]) -> Reading;
 }
 
-/// Everyone who must give order 1's answers. The library joins them here as it does below, with a `Reader` for `flagcopper_read` in
-/// `library`, whose image is the part of `out` that its answer names.
+/// Everyone who must give order 1's answers: the independent reader, and the library where it is linked.
 pub fn readers() -> Vec<(&'static str, Box<dyn Reader>)> {
-    vec![("descent", Box::new(crate::written::Descent::right()))]
+    vec![
+        ("descent", Box::new(crate::written::Descent::right())),
+        #[cfg(feature = "library")]
+        ("library", Box::new(crate::library::Library)),
+    ]
 }
 
 /// Everyone who must give the documents' answers: the independent interpreter, the flat one, and the library where it is linked.

@@ -1,21 +1,25 @@
 //! The two opinions on written scripts held against each other and against trees that were printed; each wrong turn told apart.
 
+use flagcopper_tests::chart;
 use flagcopper_tests::chart::every::every;
 use flagcopper_tests::chart::Chart;
-use flagcopper_tests::generate::written::{printed, Case, Length};
+use flagcopper_tests::encoding;
+use flagcopper_tests::generate::written::{case, printed, Case, Length};
 use flagcopper_tests::independent::Independent;
 use flagcopper_tests::random::Random;
 use flagcopper_tests::reading::{again, difference, kept, search};
 use flagcopper_tests::shrink::shrunk;
 use flagcopper_tests::subject::{readers, Reader, Reading, Refusal, Subject, SIZE};
-use flagcopper_tests::written::{Descent, Wrong};
+use flagcopper_tests::written::{judged, Descent, Refused, Wrong};
 
 const SEED: u64 = 20;
 
 #[test]
 fn every_list_of_a_few_words() {
     for (name, reader) in readers() {
-        let seen = every(reader.as_ref(), 6).unwrap_or_else(|how| panic!("{name}: {how}"));
+        // a call through the bridge takes its time
+        let words = if name == "library" && !cfg!(target_arch = "x86_64") { 5 } else { 6 };
+        let seen = every(reader.as_ref(), words).unwrap_or_else(|how| panic!("{name}: {how}"));
         println!("{name}: {seen:?}");
     }
 }
@@ -42,6 +46,21 @@ fn the_readers_agree_on_long_texts() {
         assert!(found.is_none(), "{name}: {:?}", found.map(|found| (found.number, found.how)));
         assert!(tally.of("refusal 27") >= 10 && tally.of("refusal 26") >= 5);
     }
+}
+
+/// What could stand where a text is refused is the same by trial and by the chart.
+#[test]
+fn what_could_stand_there() {
+    let mut told = 0;
+    for number in 0..3_000 {
+        let Case { text, list, .. } = case(&mut Random::of_case(SEED, number), Length::Short);
+        if let Err(Refused { place: Some((place, _)), .. }) = judged(&text, &list) {
+            let (trial, chart) = (encoding::could_be(&text, &list, place), chart::could_be(&text, place));
+            assert_eq!(trial, chart, "{} from {place}", text.escape_ascii());
+            told += 1;
+        }
+    }
+    assert!(told >= 1_000, "{told}");
 }
 
 fn checks(image: &[u8]) -> bool {

@@ -1,6 +1,9 @@
 // The interpreter for programs in C and Rust: the public functions behind a C interface, with their answers as numbers
-// (include/flagcopper.h). Wrappers only. Nothing is asked of the caller but that a pointer and its length are memory of
-// the caller's; each answer, and every word of what is lent, is the definitions'.
+// (include/flagcopper.h); in written.rt the reader of written scripts. Wrappers only. Nothing is asked of the caller but that a
+// pointer and its length are memory of the caller's; each answer, and every word of what is lent, is the definitions'.
+mod images;
+mod written;
+
 use rules::Answer;
 use rules::End;
 use rules::SIZE;

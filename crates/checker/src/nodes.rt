@@ -15,7 +15,7 @@ ghost use Rattle.rules.specs.Image.{nodesOf};
 ghost use Rattle.rules.specs.Refusals.{blank, isKind, suits};
 ghost use Rattle.rules.proofs.GoodFacts.{Sized};
 ghost use Rattle.image.specs.Tags.{kindIs};
-ghost use Rattle.checklaws.specs.Pieces.{refusal, nodeRules, placeSays, rulesSay, wordsReason, childKind, kindIndex, indexRight, nameRight};
+ghost use Rattle.checklaws.specs.Pieces.{refusal, nodeRules, placeSays, rulesSay, fitsWord, wordsReason, childKind, kindIndex, indexRight, nameRight};
 
 // 6: a word that the tag's row doesn't list is zero.
 fn blank_word(p: Role, w: usize) -> bool
@@ -110,35 +110,48 @@ fn right_word(img: &[u8], n: usize, p: Role, w: usize) -> bool
     }
 }
 
-fn right_words(img: &[u8], n: usize, x: Node, r: Row) -> bool
+// 6 and 7: a word that the tag's row doesn't list is zero, another fits its role.
+fn fits_word(img: &[u8], n: usize, p: Role, w: usize) -> bool
     requires { ⌜ Sized (now img) ⌝ }
     requires { ⌜ n < nodesOf (now img) ⌝ }
-    ensures { λ y. ⌜ y ≡ (suits (now (img .entry)) n (r .a) (x .a) && suits (now (img .entry)) n (r .b) (x .b) && suits (now (img .entry)) n (r .c) (x .c)) ⌝ }
+    ensures { λ r. ⌜ r ≡ fitsWord (now (img .entry)) n p w ⌝ }
+{
+    match p {
+        Role::Unused => w == 0,
+        _ => right_word(img, n, p, w),
+    }
+}
+
+fn fits_words(img: &[u8], n: usize, x: Node, r: Row) -> bool
+    requires { ⌜ Sized (now img) ⌝ }
+    requires { ⌜ n < nodesOf (now img) ⌝ }
+    ensures { λ y. ⌜ y ≡ (fitsWord (now (img .entry)) n (r .a) (x .a) && fitsWord (now (img .entry)) n (r .b) (x .b) && fitsWord (now (img .entry)) n (r .c) (x .c)) ⌝ }
 {
     let p = r.a;
     let q = r.b;
     let s = r.c;
-    if !right_word(img, n, p, x.a) {
+    if !fits_word(img, n, p, x.a) {
         return false;
     }
-    if !right_word(img, n, q, x.b) {
+    if !fits_word(img, n, q, x.b) {
         return false;
     }
-    right_word(img, n, s, x.c)
+    fits_word(img, n, s, x.c)
 }
 
+// Mostly every word fits, so each is looked at once for both rules; which is broken is asked only where one is.
 fn words_reason(img: &[u8], n: usize, x: Node, r: Row) -> u32
     requires { ⌜ Sized (now img) ⌝ }
     requires { ⌜ n < nodesOf (now img) ⌝ }
     ensures { λ y. ⌜ y ≡ wordsReason (now (img .entry)) n r x ⌝ }
 {
-    if !blank_words(x, r) {
-        return 6;
+    if fits_words(img, n, x, r) {
+        return 0;
     }
-    if !right_words(img, n, x, r) {
+    if blank_words(x, r) {
         return 7;
     }
-    0
+    6
 }
 
 fn node_reason(img: &[u8], n: usize) -> u32

@@ -4,23 +4,26 @@ use Prim.Native.Nat.{ℕ, zero, suc, _+_, _-_, _<_, _≤_}
 use mathlib.Core.Path.{_≡_, refl, sym, ap, subst, _∙_}
 use mathlib.Core.Bool.{Bool, true, false, cond, not, _&&_}
 use mathlib.Core.Option.{Option, none, some}
-use mathlib.Core.List.{List}
+use mathlib.Core.List.{List, [], _∷_}
 use native.Mathlib.Omega.{arith}
 use lib.ListN.{getD}
 use lib.Dec.{eqb, ltb, leb}
+use types.Run.{OneOf, miss}
+use denote.Enum.Declared.{tagOf}
 use borrow.Author.Tests.{le-leb, lt-leb, eq-eqb, ne-eqb}
+use Rattle.rules.proofs.Role.{the-type}
 use Rattle.rules.specs.declared.Node.{Node}
 use Rattle.rules.specs.declared.Verdict.{Verdict}
 use Rattle.rules.specs.declared.Verdict.the-variants.{Accepted, Refused}
 use Rattle.rules.specs.declared.Kind.{Kind}
 use Rattle.rules.specs.declared.Kind.the-variants.{Exp as anExp, Test as aTest, Cmd as aCmd}
 use Rattle.rules.specs.declared.Role.{Role}
-use Rattle.rules.specs.declared.Role.the-variants.{Child}
+use Rattle.rules.specs.declared.Role.the-variants.{Unused, Index, Half, Uses, Binds, Child}
 use Rattle.rules.specs.declared.Row.{Row}
 use Rattle.rules.specs.Image.{rowOf, kindOf, nodesOf, codeAt, nodeAt}
 use Rattle.rules.specs.Refusals.{badCode, noRow, blank, stains, sameKind, isKind, suits, misfits, badUse, atPlace, ruleOf, rule}
 use Rattle.checklaws.specs.Counts.{Counts}
-use Rattle.checklaws.specs.Pieces.{refusal, codeRules, nodeRules, useRules, placeSays, wordsReason, childKind, kindIndex}
+use Rattle.checklaws.specs.Pieces.{refusal, codeRules, nodeRules, useRules, placeSays, fitsWord, wordsReason, childKind, kindIndex}
 
 -- ---- codes
 
@@ -119,6 +122,29 @@ child-right img n w p k o b e f h = h ∙ rw (e, f) (go (ltb w n))
     go : (b : Bool) → isKind k (cond b (kindOf (nodeAt img w .tag)) none) ≡ (b && isKind k (kindOf (nodeAt img w .tag)))
     go true = refl
     go false = refl
+
+-- the roles of a word that the tag's row lists
+pub blank-other : (p : Role) (w : ℕ) → OneOf (1 ∷ 2 ∷ 3 ∷ 4 ∷ 5 ∷ []) (tagOf the-type p) → true ≡ blank p w
+unfolding blank
+blank-other Unused w h = absurd (miss (1 ∷ 2 ∷ 3 ∷ 4 ∷ 5 ∷ []) 0 tt h)
+blank-other Index w h = refl
+blank-other Half w h = refl
+blank-other Uses w h = refl
+blank-other Binds w h = refl
+blank-other (Child k) w h = refl
+
+-- a word fits where it isn't listed and is zero, or is listed and right
+and-true : (b : Bool) → b ≡ (b && true)
+and-true true = refl
+and-true false = refl
+
+pub fits-unused : (img : List ℕ) (n w : ℕ) (p : Role) → p ≡ Unused → eqb w 0 ≡ fitsWord img n p w
+unfolding fitsWord blank suits
+fits-unused img n w p e = rw e (and-true (eqb w 0))
+
+pub fits-other : (img : List ℕ) (n w : ℕ) (p : Role) (b : Bool) → OneOf (1 ∷ 2 ∷ 3 ∷ 4 ∷ 5 ∷ []) (tagOf the-type p) → b ≡ suits img n p w → b ≡ fitsWord img n p w
+unfolding fitsWord
+fits-other img n w p b o e = rw (← blank-other p w o) e
 
 -- ---- uses
 

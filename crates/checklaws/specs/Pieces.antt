@@ -12,6 +12,7 @@ use Rattle.rules.specs.declared.Verdict.{Verdict}
 use Rattle.rules.specs.declared.Verdict.the-variants.{Accepted, Refused}
 use Rattle.rules.specs.declared.Kind.{Kind}
 use Rattle.rules.specs.declared.Kind.the-variants.{Exp as anExp, Test as aTest, Cmd as aCmd}
+use Rattle.rules.specs.declared.Role.{Role}
 use Rattle.rules.specs.declared.Row.{Row}
 use Rattle.rules.specs.Image.{kindOf, fieldsOf, namesOf, nodeAt}
 use Rattle.rules.specs.Refusals.{Reason, wrongCode, noSuchTag, unusedWord, wrongOperand, notOnce, undeclared, badContents, rightLength, blank, suits, atPlace, lowest}
@@ -54,7 +55,10 @@ rulesSay img rs n = lowest (broken [] size img) rs n
 unfoldable pub namesSay : Names → List ℕ → ℕ → Verdict
 namesSay visible img n = lowest (broken visible size img) nameRules n
 
--- 6 and 7, of the roles of a node's words
+-- 6 and 7, of one word and its role, and of a node's words and their roles
+unfoldable pub fitsWord : List ℕ → ℕ → Role → ℕ → Bool
+fitsWord img n p w = blank p w && suits img n p w
+
 unfoldable pub wordsReason : List ℕ → ℕ → Row → Node → ℕ
 wordsReason img n r x =
     cond (blank (r .a) (x .a) && blank (r .b) (x .b) && blank (r .c) (x .c))

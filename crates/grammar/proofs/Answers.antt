@@ -109,7 +109,7 @@ wrong-one (too-many-names i j m) (too-many-names h g n) = refl
 -- ---- one answer for a text, by a list
 
 -- where all places are right nothing is wrong
-right-or-wrong : {fields : List Entry} (before : List Spot) (l : ℕ) {k : ℕ} {p : Piece} (after : List Spot) {us ts : List Tok}
+pub right-or-wrong : {fields : List Entry} (before : List Spot) (l : ℕ) {k : ℕ} {p : Piece} (after : List Spot) {us ts : List Tok}
     → Right fields before us → Wrong fields before us p k → Right fields (before ++ (spot l p ∷ after)) ts → ⊥
 right-or-wrong {fields} before l {p = p} after r w q = wrong-or-fine w (fine fields before l p after (r .valued) q)
 

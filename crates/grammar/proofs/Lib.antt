@@ -15,6 +15,7 @@ pub mod TableRight
 pub mod WritesProper
 pub mod TokensProper
 pub mod ReadChecks
+pub mod RefusalNumbers
 pub mod ByteClasses
 pub mod Nested
 pub mod BadLists

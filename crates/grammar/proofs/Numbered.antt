@@ -9,7 +9,7 @@ use Rattle.rules.specs.Syntax.{Exp, Test, Cmd, noExp, field, int, diff, null, r
 use Rattle.rules.proofs.Writing.{one, countExp, countTest, countCmd}
 use Rattle.rules.proofs.Sums.{one-same, one-other}
 use Rattle.grammar.specs.Nodes.{sizeExp, sizeTest, sizeCmd, lastOf}
-use Rattle.grammar.proofs.Proper.{ProperExp, ProperTest, ProperCmd}
+use Rattle.grammar.specs.Proper.{ProperExp, ProperTest, ProperCmd}
 
 unfoldable mutual
   pub numberedExp : ℕ → Exp → Exp

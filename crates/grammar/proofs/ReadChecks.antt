@@ -1,8 +1,9 @@
 -- An image that a text stands for: its tree is the text's tree (`read-tree`), it keeps the published layout (`read-published`), and the base's check accepts
--- it or refuses it with 9, never else (`read-checks`). Assumes nothing.
+-- it or refuses it with 9, never else (`read-checks`). It has at most 16,426 bytes (`few-bytes`). Assumes nothing.
 use Prim.Native.Nat.{ℕ, _≤_}
 use mathlib.Core.Path.{_≡_, sym, _∙_}
 use mathlib.Core.List.{List, map}
+use native.Mathlib.Omega.{arith}
 use lib.ListN.{length, length-map}
 use Rattle.rules.specs.Syntax.{bareCmd}
 use Rattle.rules.specs.Image.{mostFields, nodeAt, cmdAt}
@@ -10,11 +11,13 @@ use Rattle.rules.specs.Scope.{Names}
 use Rattle.rules.specs.Script.{rootOf}
 use Rattle.rules.specs.State.{size}
 use Rattle.rules.specs.Published.{Published}
+use Rattle.rules.proofs.Table.{reads}
 use Rattle.grammar.specs.FieldList.{Entry, wordOf, codeOf}
+use Rattle.grammar.specs.Nodes.{tableCmd}
 use Rattle.grammar.specs.Names.{namesIn}
-use Rattle.grammar.specs.Reads.{ReadsText, Reads}
-use Rattle.grammar.proofs.Proper.{ProperCmd}
-use Rattle.grammar.proofs.TableWrote.{Field, Name}
+use Rattle.grammar.specs.Reads.{ReadsText, mostBytes, Reads}
+use Rattle.grammar.specs.Proper.{ProperCmd, Field, Name}
+use Rattle.grammar.proofs.Sizes.{length-cmd}
 use Rattle.grammar.proofs.AllVisible.{allNames}
 use Rattle.grammar.proofs.TableRight.{Judged, tree-is, laid-published, check-only-nine}
 use Rattle.grammar.proofs.WritesProper.{writes-proper, writes-bare}
@@ -54,3 +57,9 @@ module _ {out work : ℕ} {list text img : List ℕ} (r : Reads out work list te
   read-checks =
       check-only-nine codes names (r .read .tree) img (r .read .is) few-codes (r .listed .increasing) (r .read .few-nodes) (r .read .valued .few-names)
       (read-proper (r .fields) text img (r .read))
+
+  -- no image is longer than the output that is asked for
+  pub few-bytes : length img ≤ mostBytes
+  few-bytes =
+      let i = reads codes (tableCmd 0 (r .read .tree)) names img (r .read .is) in
+      omega (arith, i .long, length-cmd 0 (r .read .tree), few-codes, r .read .few-nodes)

@@ -21,10 +21,11 @@ use Rattle.rules.proofs.Reasons.{refused-only, accepted-only}
 use Rattle.rules.proofs.Accept.{published-accepted}
 use Rattle.rules.proofs.Written.{Written, the-tree, written-published}
 use Rattle.grammar.specs.Nodes.{sizeCmd, lastOf, tableCmd}
-use Rattle.grammar.proofs.Proper.{ProperCmd, some-cmd}
+use Rattle.grammar.specs.Proper.{ProperCmd, Field, Name}
+use Rattle.grammar.proofs.Proper.{some-cmd}
 use Rattle.grammar.proofs.Sizes.{length-cmd}
 use Rattle.grammar.proofs.Numbered.{numberedCmd, root-cmd, bare-numbered, among-once, count-cmd}
-use Rattle.grammar.proofs.TableWrote.{Field, Name, Part, wrote-cmd}
+use Rattle.grammar.proofs.TableWrote.{Part, wrote-cmd}
 use Rattle.grammar.proofs.AllVisible.{allNames, sees-all, cmd-strays}
 
 -- what the check says of it

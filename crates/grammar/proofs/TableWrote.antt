@@ -11,16 +11,10 @@ use Rattle.rules.specs.Syntax.{Exp, Test, Cmd, noExp, field, int, diff, null, r
 use Rattle.rules.specs.declared.Node.{Node}
 use Rattle.rules.proofs.Writing.{four, WroteExp, WroteTest, WroteCmd}
 use Rattle.grammar.specs.Nodes.{sizeExp, sizeTest, sizeCmd, words, lastOf, tableExp, tableTest, tableCmd}
-use Rattle.grammar.proofs.Proper.{ProperExp, ProperTest, ProperCmd, some-exp, some-test, some-cmd}
+use Rattle.grammar.specs.Proper.{ProperExp, ProperTest, ProperCmd, Field, Name}
+use Rattle.grammar.proofs.Proper.{some-exp, some-test, some-cmd}
 use Rattle.grammar.proofs.Sizes.{length-exp, length-test, length-cmd}
 use Rattle.grammar.proofs.Numbered.{numberedExp, numberedTest, numberedCmd, root-exp, root-test, root-cmd}
-
--- a field index that there is, and a name
-abbrev pub Field : ℕ → ℕ → Type 0
-Field F f = (1 ≤ f) × (f ≤ F)
-
-abbrev pub Name : ℕ → ℕ → Type 0
-Name N x = x < N
 
 module _ (nodes : List Node) where
   -- these are its nodes from n on

@@ -10,7 +10,7 @@ use Rattle.grammar.specs.Places.{Piece, variable, fieldWord, digits, mar
 use Rattle.grammar.specs.FieldList.{positionOf}
 use Rattle.grammar.specs.Names.{byName, byField, tokenOf, inFront, tokensOf}
 use Rattle.grammar.proofs.Numbering.{position-below}
-use Rattle.grammar.proofs.TableWrote.{Field, Name}
+use Rattle.grammar.specs.Proper.{Field, Name}
 use Rattle.grammar.proofs.WritesProper.{ProperToken, ProperTokens}
 
 module _ (fields ns : List (List ℕ)) where

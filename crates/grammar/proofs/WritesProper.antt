@@ -7,7 +7,7 @@ use native.Mathlib.Omega.{arith}
 use Rattle.rules.specs.Syntax.{Cmd, bareExp, bareTest, bareCmd}
 use Rattle.grammar.specs.Tokens.{Tok, name, fieldName, number, mark}
 use Rattle.grammar.specs.Grammar.{negated, Phrase, anExpression, aTest, aCommand, Writes, a-field, a-number, a-negative, a-difference, a-null, a-name, a-selection, a-proc, a-group, is-true, is-false, are-equal, is-less, declares, calls, allocates, assigns, assigns-field, skips, in-sequence, repeats, chooses, in-parallel, in-atom}
-use Rattle.grammar.proofs.Proper.{ProperExp, ProperTest, ProperCmd}
+use Rattle.grammar.specs.Proper.{ProperExp, ProperTest, ProperCmd}
 
 negated-small : (n : ℕ) → negated n < 2 ^ 32
 unfolding negated

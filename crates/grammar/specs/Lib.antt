@@ -6,3 +6,4 @@ pub mod Grammar
 pub mod Nodes
 pub mod Names
 pub mod Reads
+pub mod Proper

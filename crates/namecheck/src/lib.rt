@@ -99,25 +99,30 @@ fn put(t: &mut [u64], w: usize, v: u64)
     }
 }
 
-// A child is given v.
-fn give(t: &mut [u64], p: Role, w: usize, v: u64)
-    ensures { λ _. ⌜ now (t .exit) ≡ given p w v (now (t .entry)) ⌝ }
+// A child is given the names v, in both lists at once: its role is looked at once.
+fn give(lo: &mut [u64], hi: &mut [u64], p: Role, w: usize, v: Held)
+    ensures { λ _. ⌜ (now (lo .exit) ≡ given p w (v .lo) (now (lo .entry))) × (now (hi .exit) ≡ given p w (v .hi) (now (hi .entry))) ⌝ }
 {
+    let l = v.lo;
+    let h = v.hi;
     match p {
-        Role::Child(_) => put(t, w, v),
+        Role::Child(_) => {
+            put(lo, w, l);
+            put(hi, w, h);
+        }
         _ => {}
     }
 }
 
-fn give_words(t: &mut [u64], x: Node, r: Row, v: u64)
-    ensures { λ _. ⌜ now (t .exit) ≡ givenAll r x v (now (t .entry)) ⌝ }
+fn give_words(lo: &mut [u64], hi: &mut [u64], x: Node, r: Row, v: Held)
+    ensures { λ _. ⌜ (now (lo .exit) ≡ givenAll r x (v .lo) (now (lo .entry))) × (now (hi .exit) ≡ givenAll r x (v .hi) (now (hi .entry))) ⌝ }
 {
     let p = r.a;
     let q = r.b;
     let s = r.c;
-    give(t, p, x.a, v);
-    give(t, q, x.b, v);
-    give(t, s, x.c, v);
+    give(lo, hi, p, x.a, v);
+    give(lo, hi, q, x.b, v);
+    give(lo, hi, s, x.c, v);
 }
 
 fn visit_words(lo: &mut [u64], hi: &mut [u64], n: usize, x: Node, r: Row) -> bool
@@ -133,10 +138,7 @@ fn visit_words(lo: &mut [u64], hi: &mut [u64], n: usize, x: Node, r: Row) -> boo
     let a = x.a;
     let bad = stray(p, a, v);
     let g = grown(p, a, v);
-    let l = g.lo;
-    let h = g.hi;
-    give_words(lo, x, r, l);
-    give_words(hi, x, r, h);
+    give_words(lo, hi, x, r, g);
     bad
 }
 

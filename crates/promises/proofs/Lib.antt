@@ -2,3 +2,4 @@ pub mod Answers
 pub mod LastStep
 pub mod Promises
 pub mod Excluded
+pub mod WrittenScripts

@@ -15,15 +15,15 @@ use Rattle.grammar.specs.Tokens.{Tok, valueOf}
 use Rattle.grammar.specs.Places.{Piece, variable, fieldWord, digits, marked, badByte, present, decimal}
 use Rattle.grammar.specs.FieldList.{Entry, wordOf, positionOf}
 use Rattle.grammar.specs.Names.{noted, tokenOf, pieceKind}
-use Rattle.grammar.specs.Reads.{RefusedText}
+use Rattle.grammar.specs.Reads.{Wrong as WrongAt}
 use Rattle.grammar.proofs.Numbering.{position-below}
 use Rattle.reading.specs.Items.{Item}
 use Rattle.reading.specs.Table.{Due, Act, take, pass, refuse, does, feed, Fed, onward, went, stuck}
 use Rattle.reading.specs.Progress.{Progress}
 use Rattle.reading.proofs.Alike.{refused-whatever, taker-never-passes}
 use Rattle.reading.proofs.Large.{large-stuck}
-use Rattle.reading.proofs.Steps.{Next, bad-byte-refused, order-refused, field-refused, number-refused, names-refused}
-use Rattle.letters.specs.Says.{pieceBy, Found}
+use Rattle.reading.proofs.Steps.{wrong-byte, wrong-order, wrong-field, wrong-number, wrong-name}
+use Rattle.letters.specs.Says.{pieceBy}
 use Rattle.letters.specs.declared.places.Place.{Place}
 use Rattle.dues.specs.declared.Dues.{Dues}
 use Rattle.dues.specs.declared.Made.{Made}
@@ -35,7 +35,8 @@ use Rattle.dues.proofs.PassLaws.{feed-above}
 use Rattle.dues.proofs.StackLaws.{act-takes, taker-word, taker-goes-on}
 use Rattle.fieldlist.specs.Answer.{words}
 use Rattle.reader.specs.Worth.{Valid, Fails, no-field, too-large, one-name-more, WorthSays}
-use Rattle.reader.specs.Judged.{pieceAt, TakenAs, Judges, JudgeSays, Takes-as, DecideSays, WorthFits, ValuedSays}
+use Rattle.reader.specs.Upto.{pieceAt}
+use Rattle.reader.specs.Judged.{TakenAs, Judges, JudgeSays, Takes-as, DecideSays, WorthFits, ValuedSays}
 use Rattle.reader.specs.declared.worth.Worth.{Worth}
 use Rattle.reader.specs.declared.worth.Worth.the-variants as W
 use Rattle.reader.specs.declared.judge.Judged.{Judged}
@@ -138,22 +139,20 @@ taken-as fields names ds p k q v w d m t i fits valid h =
     }
 
 -- one that has no value
-fails-refused : {fields : List Entry} {text : List ℕ} {at line : ℕ} {names : List (List ℕ)} {ds : List Due} {is : List Item}
-    (g : Progress fields text at line names ds is) {p : Piece} {k j : ℕ} (q at2 line2 : ℕ)
-    → Next p at line at2 line2 text → TakenBy ds k q → Fails fields names p k j → RefusedText fields text j line2
-fails-refused {ds = ds} {is = is} g q at2 line2 next t (no-field {w = w} h) = field-refused g (fieldWord w) at2 line2 next refl h (taker-goes-on ds 2 q t is)
-fails-refused {ds = ds} {is = is} g q at2 line2 next t (too-large {n = n} h) =
-    number-refused g (digits n) at2 line2 next refl (taker-goes-on ds 3 q t is) (large-stuck n h ds is)
-fails-refused {ds = ds} {is = is} g q at2 line2 next t (one-name-more {w = w} h l) =
-    names-refused g (variable w) at2 line2 next refl h l (taker-goes-on ds 1 q t is)
+fails-wrong : {fields : List Entry} {text : List ℕ} {at line : ℕ} {names : List (List ℕ)} {ds : List Due} {is : List Item}
+    (g : Progress fields text at line names ds is) {p : Piece} {k j : ℕ} (q : ℕ)
+    → TakenBy ds k q → Fails fields names p k j → WrongAt fields (g .before) (g .tokens) p j
+fails-wrong {ds = ds} {is = is} g q t (no-field {w = w} h) = wrong-field g (fieldWord w) refl h (taker-goes-on ds 2 q t is)
+fails-wrong {ds = ds} {is = is} g q t (too-large {n = n} h) = wrong-number g (digits n) refl (taker-goes-on ds 3 q t is) (large-stuck n h ds is)
+fails-wrong {ds = ds} {is = is} g q t (one-name-more {w = w} h l) = wrong-name g (variable w) refl h l (taker-goes-on ds 1 q t is)
 
 -- ---- the answers
 
-module _ {fields : List Entry} {text : List ℕ} {at line : ℕ} {names : List (List ℕ)} {ds : List Due} {is : List Item} (g : Progress fields text at line names ds is) (r : Place) (f : Found text at line r) (q : ℕ) (t : TakenBy ds (r .kind) q) where
+module _ {fields : List Entry} {text : List ℕ} {at line : ℕ} {names : List (List ℕ)} {ds : List Due} {is : List Item} (g : Progress fields text at line names ds is) (r : Place) (q : ℕ) (t : TakenBy ds (r .kind) q) where
   -- only a number's value decides whether it is taken
-  untaken-refused : (v : ℕ) → Valid fields names (pieceAt text r) (r .kind) v
-      → ((es : List Due) (js : List Item) → does (t .taker) (r .kind) v ≡ take es js → ⊥) → RefusedText fields text 25 (r .line)
-  untaken-refused v valid never = go (ℕ-discrete (r .kind) 3)
+  untaken-wrong : (v : ℕ) → Valid fields names (pieceAt text r) (r .kind) v
+      → ((es : List Due) (js : List Item) → does (t .taker) (r .kind) v ≡ take es js → ⊥) → WrongAt fields (g .before) (g .tokens) (pieceAt text r) 25
+  untaken-wrong v valid never = go (ℕ-discrete (r .kind) 3)
     where
       gone : feed ds (r .kind) v is ≡ stuck
       gone = untaken-stuck ds (r .kind) q v t is never
@@ -161,12 +160,12 @@ module _ {fields : List Entry} {text : List ℕ} {at line : ℕ} {names : List (
       there : feed ds (r .kind) 0 is ≡ went (t .instead ++ t .left) ((is ++ passedItems (t .above)) ++ t .nodes)
       there = taker-goes-on ds (r .kind) q t is
 
-      go : Dec (r .kind ≡ 3) → RefusedText fields text 25 (r .line)
+      go : Dec (r .kind ≡ 3) → WrongAt fields (g .before) (g .tokens) (pieceAt text r) 25
       go (yes e) =
           let n = decimal (slice (r .from) (r .to) text) in
           let i : pieceAt text r ≡ digits n = piece-number (r .kind) (slice (r .from) (r .to) text) e in
           let same : v ≡ n = number-value fields names n (r .kind) v (rw i at valid) in
-          number-refused g (pieceAt text r) (r .to) (r .line) (f .spelled) i
+          wrong-number g (pieceAt text r) i
           (rw e at there)
           (rw (e, same) at gone)
       go (no e) =
@@ -176,14 +175,14 @@ module _ {fields : List Entry} {text : List ℕ} {at line : ℕ} {names : List (
 
   module _ (w : ℕ) (i : w ≡ dueWord (t .taker)) (fits : DueFits (t .taker)) where
     known-judged : (v : ℕ) (j : Judged) → Valid fields names (pieceAt text r) (r .kind) v → noted names (pieceAt text r) ≡ names
-        → DecideSays w (r .kind) v q false j → Judges fields text names ds r j
-    known-judged v (Wrong j) valid same (e, never) = rw e (untaken-refused v valid (never (t .taker) fits i))
+        → DecideSays w (r .kind) v q false j → Judges fields text (g .before) (g .tokens) names ds r j
+    known-judged v (Wrong j) valid same (e, never) = rw e (untaken-wrong v valid (never (t .taker) fits i))
     known-judged v (Takes p d m) valid same (n, e, h) = rw e (taken-as fields names ds (pieceAt text r) (r .kind) q v w d m t i fits valid h, same)
     known-judged v (Names p d m) valid same (n, e, h) = absurd (true≢false (sym n))
 
     new-judged : (j : Judged) → Valid fields names (pieceAt text r) (r .kind) (length names) → r .kind ≡ 1 → length names < mostNames
-        → DecideSays w (r .kind) (length names) q true j → Judges fields text names ds r j
-    new-judged (Wrong j) valid k room (e, never) = rw e (untaken-refused (length names) valid (never (t .taker) fits i))
+        → DecideSays w (r .kind) (length names) q true j → Judges fields text (g .before) (g .tokens) names ds r j
+    new-judged (Wrong j) valid k room (e, never) = rw e (untaken-wrong (length names) valid (never (t .taker) fits i))
     new-judged (Takes p d m) valid k room (n, e, h) = absurd (true≢false n)
     new-judged (Names p d m) valid k room (n, e, h) =
         let a : pieceAt text r ≡ variable (slice (r .from) (r .to) text) = piece-name (r .kind) (slice (r .from) (r .to) text) k in
@@ -192,10 +191,10 @@ module _ {fields : List Entry} {text : List ℕ} {at line : ℕ} {names : List (
         rw e (taken-as fields names ds (pieceAt text r) (r .kind) q (length names) w d m t i fits valid h, more, room)
 
     valued-judged : (n : ℕ) (x : Worth) (j : Judged) → length names ≡ n → WorthSays fields names (pieceAt text r) (r .kind) x
-        → ValuedSays w (r .kind) q n x j → Judges fields text names ds r j
+        → ValuedSays w (r .kind) q n x j → Judges fields text (g .before) (g .tokens) names ds r j
     valued-judged n (W.Known v) j l (valid, same, few) h = known-judged v j valid same h
     valued-judged n W.New j l (valid, k, room) h = new-judged j valid k room (rw l h)
-    valued-judged n (W.Wrong e) j l fails h = rw h (fails-refused g q (r .to) (r .line) (f .spelled) t fails)
+    valued-judged n (W.Wrong e) j l fails h = rw h (fails-wrong g q t fails)
 
 -- ---- what the code learnt, and its answers
 
@@ -221,11 +220,11 @@ worth-fits fields text starts ends n p k (W.Known v) h = h .2
 worth-fits fields text starts ends n p k W.New h = rw (words-long text starts ends n) at (h .2)
 worth-fits fields text starts ends n p k (W.Wrong j) h = tt
 
-module _ (fields : List Entry) (text : List ℕ) (at line : ℕ) (depth : ℕ) (ws : List ℕ) (r : Place) (f : Found text at line r) where
+module _ (fields : List Entry) (text : List ℕ) (at line : ℕ) (depth : ℕ) (ws : List ℕ) (r : Place) where
   pub judged-bad-byte : (names : List (List ℕ)) → r .kind ≡ 29 → JudgeSays fields text at line names depth ws r (Wrong 22)
   judged-bad-byte names e =
       record {
-        says = λ ds is g s. bad-byte-refused g (pieceAt text r) (r .to) (r .line) (f .spelled) (piece-bad (r .kind) (slice (r .from) (r .to) text) e);
+        says = λ ds is g s. wrong-byte g (pieceAt text r) (piece-bad (r .kind) (slice (r .from) (r .to) text) e);
       }
 
   pub judged-order : (names : List (List ℕ)) (t : Taker) → (r .kind ≡ 29 → ⊥) → Asked depth ws (r .kind) t → t ≡ Nowhere
@@ -234,7 +233,7 @@ module _ (fields : List Entry) (text : List ℕ) (at line : ℕ) (depth : ℕ) (
       record {
         says = λ ds is g s.
             let none-there : TakerSays ds (r .kind) Nowhere = rw e at (a ds s) in
-            order-refused g (pieceAt text r) (r .to) (r .line) (f .spelled)
+            wrong-order g (pieceAt text r)
             (kind-of-piece (r .kind) (slice (r .from) (r .to) text) d) (none-there is);
       }
 
@@ -247,5 +246,5 @@ module _ (fields : List Entry) (text : List ℕ) (at line : ℕ) (depth : ℕ) (
         says = λ ds is g s.
             let b : TakenBy ds (r .kind) q = rw e at (a ds s) in
             let w = taker-word ds depth ws (r .kind) q s b in
-            valued-judged g r f q b (getD ws q 0) (w .0) (w .1) n x j (words-long text starts ends n) worth h;
+            valued-judged g r q b (getD ws q 0) (w .0) (w .1) n x j (words-long text starts ends n) worth h;
       }

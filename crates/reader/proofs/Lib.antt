@@ -9,3 +9,6 @@ pub mod PlaceLaws
 pub mod FinishLaws
 pub mod TextLaws
 pub mod ReadLaws
+pub mod TakingLaws
+pub mod WhyLaws
+pub mod WhyOne

@@ -21,7 +21,7 @@ use Rattle.dues.proofs.StackLaws.{stack-left, stack-length, stack-top}
 use Rattle.dues.proofs.PassLaws.{feed-above}
 use Rattle.dues.proofs.KeepLaws.{ActFits, ItemsFit, does-fit}
 use Rattle.rules.specs.Image.{mostNames}
-use Rattle.grammar.specs.Places.{Piece, variable, fieldWord, digits, marked, badByte, decimal, lineFrom, lastLine}
+use Rattle.grammar.specs.Places.{Piece, spot, variable, fieldWord, digits, marked, badByte, decimal, lineFrom, lastLine}
 use Rattle.grammar.specs.Tokens.{Tok, name, fieldName, number, mark, kindOf, valueOf}
 use Rattle.grammar.specs.FieldList.{Entry, wordOf, positionOf}
 use Rattle.grammar.specs.Names.{noted, byName, byField, tokenOf}
@@ -35,7 +35,8 @@ use Rattle.fieldlist.specs.declared.FieldRows.{FieldRows}
 use Rattle.fieldlist.specs.Answer.{Spans, words, entriesOf}
 use Rattle.reader.specs.Built.{Built, Adds, Passed, Roomy}
 use Rattle.reader.specs.Worth.{Valid}
-use Rattle.reader.specs.Judged.{TakenAs, pieceAt}
+use Rattle.reader.specs.Upto.{pieceAt, Upto}
+use Rattle.reader.specs.Judged.{TakenAs}
 use Rattle.reader.specs.declared.step.Kept.{Kept}
 use Rattle.reader.specs.Under.{Lasting, Under, TakeSays}
 use Rattle.reader.proofs.BuildLaws.{one-made}
@@ -218,6 +219,7 @@ module _
 
       -- the reader behind it, with the names that there are then
       pub taken-under : {starts′ ends′ : List ℕ} {n′ : ℕ} {ws′ img′ firsts′ : List ℕ} (kept : Kept)
+          → Upto text (r .to) (r .line) (u .places ++ (spot (r .line) (pieceAt text r) ∷ []))
           → lineFrom (r .line) (drop (r .to) text) ≡ lineFrom line (drop at text)
           → n′ ≤ mostNames
           → Spans text starts′ ends′ n′
@@ -226,7 +228,7 @@ module _
           → noted (words text starts ends n) (pieceAt text r) ≡ words text starts′ ends′ n′
           → TakeSays (r .kind) q depth start m d x kept ws img firsts ws′ img′ firsts′
           → Under list text rows (r .to) (r .line) n′ (kept .depth) start (kept .nodes) starts′ ends′ ws₀ ws′ img′ firsts′
-      taken-under {ws′ = ws′} kept l fw sp sl el ns k =
+      taken-under {ws′ = ws′} kept o l fw sp sl el ns k =
           let four = four-at-most (d .count) (d .a) (d .b) (d .c) (d .d) in
           let deep : kept .depth ≤ 3 * (r .to) + 1 = omega (arith, k .piled .count, four, taken-depth t, u .shallow, f .not-before, f .not-empty) in
           let fits : kept .depth ≤ wordsFor (length text) = omega (arith, deep, f .within) in
@@ -240,6 +242,8 @@ module _
             ends-long = el;
             shallow = deep;
             lasting = lasts text ws₀ ws ws′ (dueWords d) q (kept .depth) (u .lasting) (k .piled) fits;
+            places = u .places ++ (spot (r .line) (pieceAt text r) ∷ []);
+            upto = o;
             dues = t .instead ++ t .left;
             items = u .items ++ (passedItems (t .above) ++ t .nodes);
             progress = rw (← ns) taken-progress;

@@ -10,11 +10,11 @@ use Rattle.rules.specs.Image.{mostFields, mostNodes, mostNames}
 use Rattle.rules.specs.Published.{image}
 use Rattle.grammar.specs.Places.{lineFrom, lastLine}
 use Rattle.grammar.specs.FieldList.{Entry, codeOf}
-use Rattle.grammar.specs.Reads.{ReadsText, RefusedText, wordsFor, mostBytes}
+use Rattle.grammar.specs.Reads.{ReadsText, Wrong, RefusedText, wordsFor, mostBytes}
 use Rattle.reading.specs.Items.{Item}
 use Rattle.reading.specs.Links.{nodesIn, link}
 use Rattle.reading.specs.Table.{command, start as atFirst}
-use Rattle.reading.proofs.Steps.{begins}
+use Rattle.reading.proofs.Steps.{begins, refused-here}
 use Rattle.reading.proofs.Ends.{end-refused-on, ends-linked, ends-many}
 use Rattle.letters.specs.declared.places.Place.{Place}
 use Rattle.letters.specs.Says.{NextSays}
@@ -28,6 +28,7 @@ use Rattle.tables.proofs.Tabling.{tabled-none}
 use Rattle.reader.specs.declared.finish.Whole.{Whole}
 use Rattle.reader.specs.declared.step.Step.{Step}
 use Rattle.reader.specs.declared.text.Ending.{Ending}
+use Rattle.reader.specs.Upto.{pieceAt, none-yet}
 use Rattle.reader.specs.Built.{Roomy, Built}
 use Rattle.reader.specs.Finish.{EndSaysAll, Ends}
 use Rattle.reader.specs.Under.{Under, Facing, Faces, Told, StepSays}
@@ -56,6 +57,8 @@ begins-under list text rows start ws img firsts starts ends enough top bytes zer
       ends-long = b;
       shallow = omega arith;
       lasting = record { enough = enough; same-length = refl; past = refl };
+      places = [];
+      upto = none-yet;
       dues = atFirst;
       items = [];
       progress = begins (entriesOf list rows) text;
@@ -86,7 +89,7 @@ module _
     under-stands = record { dues = u .dues; stacked = u .stacked }
 
     pub faced : (p : Place) → NextSays text at line p → (p .kind ≡ 0 → ⊥) → Facing list text rows p at line n depth start m starts ends ws₀ ws img firsts
-    faced p s h = record { under = u; found = s .found h; lines = next-lines text at line p (u .inside) s h }
+    faced p s h = record { under = u; next = s; found = s .found h; lines = next-lines text at line p (u .inside) s h }
 
     pub faces : (p : Place) → NextSays text at line p → (p .kind ≡ 0 → ⊥) → Faces list text rows p n depth start m starts ends ws img firsts
     faces p s h = record { at = at; line = line; ws₀ = ws₀; facing = faced p s h }
@@ -97,25 +100,56 @@ module _
     (r : Step)
     (s : StepSays list text rows p n depth start m r starts ends ws img firsts starts′ ends′ ws′ img′ firsts′)
   where
-    -- what is wrong
-    pub wrong-told : (e : Ending) → (r .why ≡ 0 → ⊥) → e .why ≡ r .why → e .line ≡ p .line → TextSays list text rows start e ws₀ ws′ img′ firsts′
-    wrong-told e h w l = go (r .why) h w (s .says at line ws₀ f)
+    -- what is wrong there, and the words as they were
+    wrong-there : (r .why ≡ 0 → ⊥) → Wrong (entriesOf list rows) (f .under .progress .before) (f .under .progress .tokens) (pieceAt text p) (r .why) × (ws′ ≡ ws)
+    wrong-there h = go (r .why) h (s .says at line ws₀ f)
       where
         go : (why : ℕ)
             → (why ≡ 0 → ⊥)
-            → e .why ≡ why
-            → Told why list text rows p r start starts′ ends′ ws₀ ws′ img′ firsts′
-            → TextSays list text rows start e ws₀ ws′ img′ firsts′
-        go zero h w t = absurd (h refl)
-        go (suc k) h w t =
-            record {
-              finds = subst (λ (i : ℕ). Finds i list text rows start e img′ firsts′) (sym w) (rw l (t .0));
-              lasting = t .1;
-            }
+            → Told why list text rows p r (f .under .progress .before) (f .under .progress .tokens) start starts′ ends′ ws₀ ws ws′ img′ firsts′
+            → Wrong (entriesOf list rows) (f .under .progress .before) (f .under .progress .tokens) (pieceAt text p) why × (ws′ ≡ ws)
+        go zero h t = absurd (h refl)
+        go (suc k) h t = t
+
+    pub wrong-told : (e : Ending)
+        → (r .why ≡ 0 → ⊥)
+        → e .why ≡ r .why
+        → e .line ≡ p .line
+        → e .place ≡ p
+        → e .depth ≡ depth
+        → TextSays list text rows start e ws₀ ws′ img′ firsts′
+    wrong-told e h w l o d =
+        let t = wrong-there h in
+        let refused : RefusedText (entriesOf list rows) text (r .why) (p .line) = refused-here (f .under .progress) (pieceAt text p) (p .to) (p .line) (f .found .spelled) (t .0) in
+        record {
+          finds = finds-refusal (e .why) (λ z. h (sym w ∙ z)) (rw (w, l) refused);
+          lasting = rw (t .1) (f .under .lasting);
+          stopped =
+              record {
+                at = at;
+                line = line;
+                places = f .under .places;
+                upto = f .under .upto;
+                names = words text starts ends n;
+                dues = f .under .dues;
+                items = f .under .items;
+                progress = f .under .progress;
+                stacked = rw (d, t .1) (f .under .stacked);
+                next = rw o (f .next);
+                wrong = λ _. (rw (o, w) (t .0), rw o l);
+                last = λ z. absurd (h (sym w ∙ z));
+              };
+        }
+      where
+        finds-refusal : (why : ℕ) → (why ≡ 0 → ⊥) → RefusedText (entriesOf list rows) text why (e .line) → Finds why list text rows start e img′ firsts′
+        finds-refusal zero h x = absurd (h refl)
+        finds-refusal (suc k) h x = x
 
     -- nothing is
     pub right-told : r .why ≡ 0 → Under list text rows (p .to) (p .line) (r .names) (r .depth) start (r .nodes) starts′ ends′ ws₀ ws′ img′ firsts′
-    right-told e = subst (λ (i : ℕ). Told i list text rows p r start starts′ ends′ ws₀ ws′ img′ firsts′) e (s .says at line ws₀ f)
+    right-told e =
+        subst (λ (i : ℕ). Told i list text rows p r (f .under .progress .before) (f .under .progress .tokens) start starts′ ends′ ws₀ ws ws′ img′ firsts′) e
+        (s .says at line ws₀ f)
 
 -- ---- the end
 
@@ -142,6 +176,8 @@ module _
     (names : r .names ≡ n)
     (no-line : w .why ≡ 27 → r .line ≡ 0)
     (its-line : (w .why ≡ 27 → ⊥) → r .line ≡ p .line)
+    (its-place : r .place ≡ p)
+    (its-depth : r .depth ≡ depth)
   where
     ended : Ends (u .dues) (u .items) start w img′ firsts′
     ended = a .says (u .dues) (u .items) (u .stacked) (u .built)
@@ -178,4 +214,19 @@ module _
         record {
           finds = ⊎-elim (λ e. found 0 e (whole e)) (λ o. ⊎-elim (λ e. found 23 e (early e)) (λ e. found 27 e (many e)) o) (ended .known);
           lasting = u .lasting;
+          stopped =
+              record {
+                at = at;
+                line = line;
+                places = u .places;
+                upto = u .upto;
+                names = words text starts ends n;
+                dues = u .dues;
+                items = u .items;
+                progress = u .progress;
+                stacked = rw its-depth (u .stacked);
+                next = rw its-place s;
+                wrong = λ h. absurd (omega (arith, none, rw its-place at h));
+                last = λ z. its-line (λ q. absurd (omega (arith, why, z, q))) ∙ s .at-end none .is-line ∙ u .last;
+              };
         }

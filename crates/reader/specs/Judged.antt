@@ -6,28 +6,25 @@ use mathlib.Core.List.{List, [], _∷_, _++_, map}
 use lib.ListN.{length}
 use lib.Seq.{slice}
 use Rattle.rules.specs.Image.{mostNames}
-use Rattle.grammar.specs.Places.{Piece}
+use Rattle.grammar.specs.Tokens.{Tok}
+use Rattle.grammar.specs.Places.{Piece, Spot}
 use Rattle.grammar.specs.FieldList.{Entry}
 use Rattle.grammar.specs.Names.{noted}
-use Rattle.grammar.specs.Reads.{RefusedText}
+use Rattle.grammar.specs.Reads.{Wrong as WrongAt}
 use Rattle.reading.specs.Items.{Item}
 use Rattle.reading.specs.Progress.{Progress}
 use Rattle.reading.specs.Table.{Due, take, does}
 use Rattle.letters.specs.declared.places.Place.{Place}
-use Rattle.letters.specs.Says.{pieceBy}
 use Rattle.dues.specs.declared.Dues.{Dues}
 use Rattle.dues.specs.declared.Made.{Made}
 use Rattle.dues.specs.Words.{taken, dueWord, dueWords, madeItems, inWords, NameFits}
 use Rattle.dues.specs.Stack.{DueFits, Stacked, PassesAll}
+use Rattle.reader.specs.Upto.{pieceAt}
 use Rattle.reader.specs.Worth.{Valid}
 use Rattle.reader.specs.declared.worth.Worth.{Worth}
 use Rattle.reader.specs.declared.worth.Worth.the-variants as W
 use Rattle.reader.specs.declared.judge.Judged.{Judged}
 use Rattle.reader.specs.declared.judge.Judged.the-variants.{Wrong, Takes, Names}
-
--- what stands at a place
-abbrev pub pieceAt : List ℕ → Place → Piece
-pieceAt text r = pieceBy (r .kind) (slice (r .from) (r .to) text)
 
 -- the token is taken by the thing due below which q others stand; its value is v
 pub record TakenAs (fields : List Entry) (names : List (List ℕ)) (ds : List Due) (p : Piece) (k q : ℕ) (dues : Dues) (made : Made) : Type 0 where
@@ -45,18 +42,21 @@ pub record TakenAs (fields : List Entry) (names : List (List ℕ)) (ds : List Du
   pub words : dueWords dues ≡ map dueWord instead
   pub items : madeItems made ≡ nodes
 
--- number 22 to 26; or what takes it, where it is no new name, and where it is one
-abbrev pub Judges : List Entry → List ℕ → List (List ℕ) → List Due → Place → Judged → Type 0
-Judges fields text names ds r (Wrong j) = RefusedText fields text j (r .line)
-Judges fields text names ds r (Takes q d m) = TakenAs fields names ds (pieceAt text r) (r .kind) q d m × (noted names (pieceAt text r) ≡ names)
-Judges fields text names ds r (Names q d m) =
+-- number 22 to 26, for what is wrong there behind these places and tokens; or what takes it, where it is no new name, and where it is one
+abbrev pub Judges : List Entry → List ℕ → List Spot → List Tok → List (List ℕ) → List Due → Place → Judged → Type 0
+Judges fields text before us names ds r (Wrong j) = WrongAt fields before us (pieceAt text r) j
+Judges fields text before us names ds r (Takes q d m) =
+    TakenAs fields names ds (pieceAt text r) (r .kind) q d m × (noted names (pieceAt text r) ≡ names)
+Judges fields text before us names ds r (Names q d m) =
     TakenAs fields names ds (pieceAt text r) (r .kind) q d m
     × (noted names (pieceAt text r) ≡ names ++ (slice (r .from) (r .to) text ∷ []))
     × (length names < mostNames)
 
 -- however the text was read so far
 pub record JudgeSays (fields : List Entry) (text : List ℕ) (at line : ℕ) (names : List (List ℕ)) (depth : ℕ) (ws : List ℕ) (r : Place) (j : Judged) : Type 0 where
-  pub says : (ds : List Due) (is : List Item) → Progress fields text at line names ds is → Stacked ds depth ws → Judges fields text names ds r j
+  pub says : (ds : List Due) (is : List Item) (g : Progress fields text at line names ds is)
+      → Stacked ds depth ws
+      → Judges fields text (g .before) (g .tokens) names ds r j
 
 -- ---- a token whose value is known, at the thing due of a word
 

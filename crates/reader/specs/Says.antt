@@ -1,6 +1,6 @@
 -- What the reader answers: the image's bytes and no other, or the number and the line of a refusal, which leaves every byte of the output; and what the lent words
 -- hold afterwards. Assumes nothing.
-use Prim.Native.Nat.{ℕ, zero, suc, _+_, _*_, _≤_}
+use Prim.Native.Nat.{ℕ, zero, suc, _+_, _*_, _<_, _≤_}
 use mathlib.Core.Path.{_≡_}
 use mathlib.Core.Bool.{cond}
 use mathlib.Core.List.{List, [], _∷_, _++_, map}
@@ -8,13 +8,19 @@ use lib.ListN.{length, drop, replicate}
 use Rattle.rules.specs.Image.{mostNodes, mostNames}
 use Rattle.rules.specs.Published.{image}
 use Rattle.grammar.specs.Classes.{among}
+use Rattle.grammar.specs.Places.{Spot, lastLine}
 use Rattle.grammar.specs.FieldList.{codeOf}
-use Rattle.grammar.specs.Reads.{ReadsText, RefusedText, wordsFor, Reads, Refuses}
+use Rattle.grammar.specs.Reads.{ReadsText, Wrong, RefusedText, wordsFor, Reads, Refuses}
 use Rattle.reading.specs.Items.{Item}
 use Rattle.reading.specs.Links.{nodesIn, link}
+use Rattle.reading.specs.Table.{Due}
+use Rattle.reading.specs.Progress.{Progress}
+use Rattle.letters.specs.Says.{NextSays}
 use Rattle.fieldlist.specs.declared.FieldRows.{FieldRows}
 use Rattle.fieldlist.specs.Answer.{entriesOf}
 use Rattle.tables.specs.Tabled.{Tabled}
+use Rattle.dues.specs.Stack.{Stacked}
+use Rattle.reader.specs.Upto.{pieceAt, Upto}
 use Rattle.reader.specs.Under.{Lasting}
 use Rattle.reader.specs.declared.Reading.{Reading}
 use Rattle.reader.specs.declared.Reading.the-variants.{Image, Refused}
@@ -35,9 +41,25 @@ abbrev pub Finds : ℕ → List ℕ → List ℕ → FieldRows → ℕ → Endin
 Finds zero list text rows start r img firsts = Stood list text rows start (r .nodes) (r .names) img firsts
 Finds (suc k) list text rows start r img firsts = RefusedText (entriesOf list rows) text (suc k) (r .line)
 
+-- where the reading ended: up to there all is right, what is due is on the stack, and what follows is wrong there or the end of the text
+pub record Stopped (list text : List ℕ) (rows : FieldRows) (r : Ending) (ws : List ℕ) : Type 0 where
+  pub at : ℕ
+  pub line : ℕ
+  pub places : List Spot
+  pub upto : Upto text at line places
+  pub names : List (List ℕ)
+  pub dues : List Due
+  pub items : List Item
+  pub progress : Progress (entriesOf list rows) text at line names dues items
+  pub stacked : Stacked dues (r .depth) ws
+  pub next : NextSays text at line (r .place)
+  pub wrong : 0 < r .place .kind → Wrong (entriesOf list rows) (progress .before) (progress .tokens) (pieceAt text (r .place)) (r .why) × (r .line ≡ r .place .line)
+  pub last : r .why ≡ 0 → r .line ≡ lastLine text
+
 pub record TextSays (list text : List ℕ) (rows : FieldRows) (start : ℕ) (r : Ending) (ws ws′ img firsts : List ℕ) : Type 0 where
   pub finds : Finds (r .why) list text rows start r img firsts
   pub lasting : Lasting text ws ws′
+  pub stopped : Stopped list text rows r ws′
 
 -- ---- the answer
 

@@ -4,19 +4,21 @@ use mathlib.Core.Path.{_≡_}
 use mathlib.Core.List.{List, _++_}
 use lib.ListN.{length, drop}
 use Rattle.rules.specs.Image.{mostNames}
-use Rattle.grammar.specs.Places.{lineFrom, lastLine}
-use Rattle.grammar.specs.Reads.{RefusedText, wordsFor}
+use Rattle.grammar.specs.Tokens.{Tok}
+use Rattle.grammar.specs.Places.{Spot, lineFrom, lastLine}
+use Rattle.grammar.specs.Reads.{Wrong, wordsFor}
 use Rattle.reading.specs.Items.{Item}
 use Rattle.reading.specs.Progress.{Progress}
 use Rattle.reading.specs.Table.{Due}
 use Rattle.letters.specs.declared.places.Place.{Place}
-use Rattle.letters.specs.Says.{Found}
+use Rattle.letters.specs.Says.{NextSays, Found}
 use Rattle.fieldlist.specs.declared.FieldRows.{FieldRows}
 use Rattle.fieldlist.specs.Answer.{Spans, words, entriesOf}
 use Rattle.dues.specs.declared.Dues.{Dues}
 use Rattle.dues.specs.declared.Made.{Made}
 use Rattle.dues.specs.Words.{dueWords, madeItems}
 use Rattle.dues.specs.Stack.{Stacked, PassesAll, passedItems, Piled}
+use Rattle.reader.specs.Upto.{pieceAt, Upto}
 use Rattle.reader.specs.Built.{Built, Adds}
 use Rattle.reader.specs.declared.step.Kept.{Kept}
 use Rattle.reader.specs.declared.step.Step.{Step}
@@ -37,6 +39,8 @@ pub record Under (list text : List ℕ) (rows : FieldRows) (at line n depth star
   pub ends-long : length ends ≡ mostNames
   pub shallow : depth ≤ 3 * at + 1
   pub lasting : Lasting text ws₀ ws
+  pub places : List Spot
+  pub upto : Upto text at line places
   pub dues : List Due
   pub items : List Item
   pub progress : Progress (entriesOf list rows) text at line (words text starts ends n) dues items
@@ -58,6 +62,7 @@ pub record TakeSays (kind q depth start m : ℕ) (d : Dues) (x : Made) (r : Kept
 -- the reader stands before it
 pub record Facing (list text : List ℕ) (rows : FieldRows) (p : Place) (at line n depth start m : ℕ) (starts ends ws₀ ws img firsts : List ℕ) : Type 0 where
   pub under : Under list text rows at line n depth start m starts ends ws₀ ws img firsts
+  pub next : NextSays text at line p
   pub found : Found text at line p
   pub lines : lineFrom (p .line) (drop (p .to) text) ≡ lineFrom line (drop at text)
 
@@ -68,14 +73,13 @@ pub record Faces (list text : List ℕ) (rows : FieldRows) (p : Place) (n depth 
   pub ws₀ : List ℕ
   pub facing : Facing list text rows p at line n depth start m starts ends ws₀ ws img firsts
 
--- nothing is wrong, and the reader is behind it; or the number of what is wrong
-abbrev pub Told : ℕ → List ℕ → List ℕ → FieldRows → Place → Step → ℕ → List ℕ → List ℕ → List ℕ → List ℕ → List ℕ → List ℕ → Type 0
-Told zero list text rows p r start starts ends ws₀ ws img firsts =
-    Under list text rows (p .to) (p .line) (r .names) (r .depth) start (r .nodes) starts ends ws₀ ws img firsts
-Told (suc k) list text rows p r start starts ends ws₀ ws img firsts =
-    RefusedText (entriesOf list rows) text (suc k) (p .line) × Lasting text ws₀ ws
+-- nothing is wrong, and the reader is behind it; or the number of what is wrong there, behind these places and tokens, and the lent words are as they were
+abbrev pub Told : ℕ → List ℕ → List ℕ → FieldRows → Place → Step → List Spot → List Tok → ℕ → List ℕ → List ℕ → List ℕ → List ℕ → List ℕ → List ℕ → List ℕ → Type 0
+Told zero list text rows p r before us start starts ends ws₀ ws ws′ img firsts =
+    Under list text rows (p .to) (p .line) (r .names) (r .depth) start (r .nodes) starts ends ws₀ ws′ img firsts
+Told (suc k) list text rows p r before us start starts ends ws₀ ws ws′ img firsts =
+    Wrong (entriesOf list rows) before us (pieceAt text p) (suc k) × (ws′ ≡ ws)
 
 pub record StepSays (list text : List ℕ) (rows : FieldRows) (p : Place) (n depth start m : ℕ) (r : Step) (starts ends ws img firsts starts′ ends′ ws′ img′ firsts′ : List ℕ) : Type 0 where
-  pub says : (at line : ℕ) (ws₀ : List ℕ)
-      → Facing list text rows p at line n depth start m starts ends ws₀ ws img firsts
-      → Told (r .why) list text rows p r start starts′ ends′ ws₀ ws′ img′ firsts′
+  pub says : (at line : ℕ) (ws₀ : List ℕ) (f : Facing list text rows p at line n depth start m starts ends ws₀ ws img firsts)
+      → Told (r .why) list text rows p r (f .under .progress .before) (f .under .progress .tokens) start starts′ ends′ ws₀ ws ws′ img′ firsts′

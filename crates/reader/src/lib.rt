@@ -6,6 +6,7 @@ mod finish;
 mod judge;
 mod step;
 mod text;
+pub mod why;
 mod worth;
 
 use fieldlist::FieldRows;

@@ -4,6 +4,7 @@ use crate::finish::Whole;
 use crate::step;
 use fieldlist::FieldRows;
 use letters::places;
+use letters::places::Place;
 ghost use mathlib.Core.Path.{_≡_};
 ghost use Prim.Native.Nat.{_+_, _*_, _≤_};
 ghost use lib.ListN.{length, getD, replicate};
@@ -13,34 +14,35 @@ ghost use Rattle.letters.specs.Table.{classes};
 ghost use Rattle.fieldlist.specs.Answer.{RightRows};
 ghost use Rattle.reader.specs.Says.{TextSays};
 
-// `why` is 0, and there are so many nodes and names; or the number of what is wrong, and its line.
+// `why` is 0, and there are so many nodes and names; or the number of what is wrong, and its line. The reading ended at `place`, and so many things are
+// due there.
 pub struct Ending {
     pub why: u32,
     pub line: usize,
     pub nodes: usize,
     pub names: usize,
+    pub place: Place,
+    pub depth: usize,
 }
 
 // Too many nodes are no place's fault, and have no line.
-fn at_end(w: Whole, line: usize, names: usize) -> Ending
-    ensures { λ r. ⌜ (r .why ≡ w .why) × (r .nodes ≡ w .nodes) × (r .names ≡ names) ⌝ }
-    ensures { λ r. ⌜ (w .why ≡ 27 → r .line ≡ 0) × ((w .why ≡ 27 → ⊥) → r .line ≡ line) ⌝ }
+fn at_end(w: Whole, place: Place, names: usize, depth: usize) -> Ending
+    ensures { λ r. ⌜ (r .why ≡ w .why) × (r .nodes ≡ w .nodes) × (r .names ≡ names) × (r .place ≡ place) × (r .depth ≡ depth) ⌝ }
+    ensures { λ r. ⌜ (w .why ≡ 27 → r .line ≡ 0) × ((w .why ≡ 27 → ⊥) → r .line ≡ place .line) ⌝ }
 {
     let why = w.why;
     let nodes = w.nodes;
+    let mut line = place.line;
     if why == 27 {
-        return Ending {
-            why,
-            line: 0,
-            nodes,
-            names,
-        };
+        line = 0;
     }
     Ending {
         why,
         line,
         nodes,
         names,
+        place,
+        depth,
     }
 }
 
@@ -75,7 +77,7 @@ pub fn read_text(
         let to = p.to;
         if kind == 0 {
             let w = finish::end_text(work, depth, img, firsts, start, m);
-            return at_end(w, on, n);
+            return at_end(w, p, n, depth);
         }
         let s = step::read_place(
             text,
@@ -99,6 +101,8 @@ pub fn read_text(
                 line: on,
                 nodes: 0,
                 names: 0,
+                place: p,
+                depth,
             };
         }
         at = to;

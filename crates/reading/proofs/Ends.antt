@@ -19,10 +19,9 @@ use Rattle.reading.specs.Table.{Due, finish, finished, reading}
 use Rattle.reading.specs.Progress.{Progress}
 use Rattle.reading.proofs.Sound.{reads-only}
 use Rattle.reading.proofs.SameTexts.{rules-write}
-use Rattle.reading.proofs.FirstPlace.{no-text}
 use Rattle.reading.proofs.ItemSizes.{items-long}
 use Rattle.reading.proofs.ReadLinks.{read-links}
-use Rattle.reading.proofs.Steps.{right-so-far}
+use Rattle.reading.proofs.Steps.{right-so-far, cannot-end}
 
 -- a tree with these nodes, and the text's answer by how many they are
 pub record EndsWith (fields : List Entry) (text : List ℕ) (names : List (List ℕ)) (js : List Item) : Type 0 where
@@ -34,12 +33,11 @@ pub record EndsWith (fields : List Entry) (text : List ℕ) (names : List (List 
 
 module _ {fields : List Entry} {text : List ℕ} {at line : ℕ} {names : List (List ℕ)} {ds : List Due} {is : List Item}
     (g : Progress fields text at line names ds is) (e : Spelled (drop at text) line []) where
-  spelled-whole : Spelled text 1 (g .before)
+  pub spelled-whole : Spelled text 1 (g .before)
   spelled-whole = subst (Spelled text 1) (append-nil (g .before)) (g .spelled [] e)
 
   pub end-refused : finish ds is ≡ none → RefusedText fields text 23 (lastLine text)
-  unfolding reading
-  end-refused h = early-end spelled-whole (right-so-far g) (no-text (g .tokens) (ap finished (g .fed) ∙ h))
+  end-refused h = early-end spelled-whole (right-so-far g) (cannot-end g h)
 
   -- on the line that has been counted to the end, where it was counted right so far
   pub end-refused-on : {l : ℕ} → lineFrom line (drop at text) ≡ lastLine text → l ≡ lineFrom line (drop at text) → finish ds is ≡ none → RefusedText fields text 23 l

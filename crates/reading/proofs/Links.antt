@@ -13,7 +13,7 @@ use Rattle.rules.specs.declared.Kind.{Kind}
 use Rattle.rules.specs.declared.Role.the-variants.{Unused, Binds, Child}
 use Rattle.rules.specs.Image.{tags, row, rowIn, rowOf, lineOf, lineIn}
 use Rattle.grammar.specs.Nodes.{sizeExp, sizeTest, sizeCmd, words, lastOf, tableExp, tableTest, tableCmd}
-use Rattle.grammar.proofs.Proper.{ProperExp, ProperTest, ProperCmd}
+use Rattle.grammar.specs.Proper.{ProperExp, ProperTest, ProperCmd}
 use Rattle.grammar.proofs.Sizes.{behind-one}
 use Rattle.reading.specs.Items.{Item, put, itemsExp, itemsTest, itemsCmd}
 use Rattle.reading.specs.Links.{linkedBy, linked, firstBy, firstOf, Chained, chained, nodesIn, linkOn, linkFrom, link}

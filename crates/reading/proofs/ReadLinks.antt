@@ -10,7 +10,7 @@ use Rattle.grammar.specs.FieldList.{Entry, codeOf}
 use Rattle.grammar.specs.Nodes.{tableCmd}
 use Rattle.grammar.specs.Names.{namesIn}
 use Rattle.grammar.specs.Reads.{ReadsText}
-use Rattle.grammar.proofs.TableWrote.{Field, Name}
+use Rattle.grammar.specs.Proper.{Field, Name}
 use Rattle.grammar.proofs.ReadChecks.{read-proper}
 use Rattle.reading.specs.Items.{itemsCmd}
 use Rattle.reading.specs.Links.{nodesIn, link}

@@ -11,15 +11,16 @@ use Rattle.rules.specs.Image.{mostNames}
 use Rattle.grammar.specs.Tokens.{Tok, name, fieldName, number, mark, kindOf, valueOf}
 use Rattle.grammar.specs.Places.{Piece, variable, fieldWord, digits, marked, badByte, Spot, spot, present, Spelled}
 use Rattle.grammar.specs.FieldList.{Entry, wordOf, positionOf}
+use Rattle.grammar.specs.Grammar.{Text}
 use Rattle.grammar.specs.Names.{noted, namesFrom, namesIn, tokenOf, tokensOf, pieceKind}
 use Rattle.grammar.specs.Reads.{Valued, Right, GoesOn, Wrong, bad-byte, bad-order, unknown-field, outside-32-bits, too-many-names, RefusedText, at-a-place}
 use Rattle.grammar.proofs.Spelling.{spelled-some}
 use Rattle.grammar.proofs.Numbering.{position-new}
 use Rattle.reading.specs.Items.{Item}
 use Rattle.reading.specs.Marks.{IsMark}
-use Rattle.reading.specs.Table.{Due, went, stuck, feed, feeds, start}
+use Rattle.reading.specs.Table.{Due, went, stuck, feed, feeds, finish, finished, start, reading}
 use Rattle.reading.specs.Progress.{Progress}
-use Rattle.reading.proofs.FirstPlace.{fed-next, fed-one, known-append, refused-right, refused-alike, read-right, read-alike}
+use Rattle.reading.proofs.FirstPlace.{fed-next, fed-one, known-append, no-text, a-text, refused-right, refused-alike, read-right, read-alike}
 use Rattle.reading.proofs.Longer.{names-more, valued-more}
 
 -- from byte `at` on the next place has `p` on line `line2`, and the rest begins at byte `at2`
@@ -50,9 +51,21 @@ module _ {fields : List Entry} {text : List ℕ} {at line : ℕ} {names : List (
   pub right-so-far : Right fields (g .before) (g .tokens)
   right-so-far = record { valued = g .valued; begins = read-right (g .tokens) (g .known) (g .fed) }
 
-  -- a text can go on with a kind that the table takes
-  takes-kind : {es : List Due} {js : List Item} (k : ℕ) → 0 < k → feed ds k 0 is ≡ went es js → GoesOn (g .tokens) k
+  -- a text can go on with a kind that the table takes, and with no other
+  pub takes-kind : {es : List Due} {js : List Item} (k : ℕ) → 0 < k → feed ds k 0 is ≡ went es js → GoesOn (g .tokens) k
   takes-kind k h f = read-alike (g .tokens) k (g .known) h (g .fed) f
+
+  pub refuses-kind : (k : ℕ) → feed ds k 0 is ≡ stuck → GoesOn (g .tokens) k → ⊥
+  refuses-kind k f = refused-alike (g .tokens) k (g .fed) f
+
+  -- it can end where nothing is due that has to come, and nowhere else
+  pub can-end : {js : List Item} → finish ds is ≡ some js → Text (g .tokens)
+  unfolding reading
+  can-end h = a-text (g .tokens) (g .known) (ap finished (g .fed) ∙ h)
+
+  pub cannot-end : finish ds is ≡ none → Text (g .tokens) → ⊥
+  unfolding reading
+  cannot-end h = no-text (g .tokens) (ap finished (g .fed) ∙ h)
 
   module _ (p : Piece) (at2 line2 : ℕ) (next : Next p at line at2 line2 text) where
     -- the place is taken
@@ -107,28 +120,33 @@ module _ {fields : List Entry} {text : List ℕ} {at line : ℕ} {names : List (
     mark-goes-on {k} e h f = goes-by {t = mark k} e refl refl h few-so-far f
 
     -- or the text is refused there
-    wrong-here : {q : Piece} {k : ℕ} → p ≡ q → Wrong fields (g .before) (g .tokens) q k → RefusedText fields text k line2
-    wrong-here {q} {k} e w =
+    pub refused-here : {k : ℕ} → Wrong fields (g .before) (g .tokens) p k → RefusedText fields text k line2
+    refused-here w =
         let rest = spelled-some (drop at2 text) line2 in
-        at-a-place (rest .0) (g .spelled (spot line2 p ∷ rest .0) (next (rest .0) (rest .1))) right-so-far
-        (subst (λ r. Wrong fields (g .before) (g .tokens) r k) (sym e) w)
+        at-a-place (rest .0) (g .spelled (spot line2 p ∷ rest .0) (next (rest .0) (rest .1))) right-so-far w
 
-    pub bad-byte-refused : {b : ℕ} → p ≡ badByte b → RefusedText fields text 22 line2
-    bad-byte-refused e = wrong-here e bad-byte
+  -- ---- what is wrong there
+
+  module _ (p : Piece) where
+    wrong-as : {q : Piece} {k : ℕ} → p ≡ q → Wrong fields (g .before) (g .tokens) q k → Wrong fields (g .before) (g .tokens) p k
+    wrong-as {k = k} e w = subst (λ r. Wrong fields (g .before) (g .tokens) r k) (sym e) w
+
+    pub wrong-byte : {b : ℕ} → p ≡ badByte b → Wrong fields (g .before) (g .tokens) p 22
+    wrong-byte e = wrong-as e bad-byte
 
     -- whatever its name, field or number
-    pub order-refused : {k : ℕ} → pieceKind p ≡ some k → feed ds k 0 is ≡ stuck → RefusedText fields text 23 line2
-    order-refused {k} e f = wrong-here refl (bad-order e (refused-alike (g .tokens) k (g .fed) f))
+    pub wrong-order : {k : ℕ} → pieceKind p ≡ some k → feed ds k 0 is ≡ stuck → Wrong fields (g .before) (g .tokens) p 23
+    wrong-order {k} e f = bad-order e (refuses-kind k f)
 
-    pub field-refused : {w : List ℕ} {es : List Due} {js : List Item}
-        → p ≡ fieldWord w → positionOf w (map wordOf fields) ≡ none → feed ds 2 0 is ≡ went es js → RefusedText fields text 24 line2
-    field-refused e h f = wrong-here e (unknown-field (takes-kind 2 (omega arith) f) h)
+    pub wrong-field : {w : List ℕ} {es : List Due} {js : List Item}
+        → p ≡ fieldWord w → positionOf w (map wordOf fields) ≡ none → feed ds 2 0 is ≡ went es js → Wrong fields (g .before) (g .tokens) p 24
+    wrong-field e h f = wrong-as e (unknown-field (takes-kind 2 (omega arith) f) h)
 
-    pub number-refused : {n : ℕ} {es : List Due} {js : List Item}
-        → p ≡ digits n → feed ds 3 0 is ≡ went es js → feed ds 3 n is ≡ stuck → RefusedText fields text 25 line2
+    pub wrong-number : {n : ℕ} {es : List Due} {js : List Item}
+        → p ≡ digits n → feed ds 3 0 is ≡ went es js → feed ds 3 n is ≡ stuck → Wrong fields (g .before) (g .tokens) p 25
     unfolding kindOf valueOf
-    number-refused {n} e f h = wrong-here e (outside-32-bits (takes-kind 3 (omega arith) f) (refused-right (g .tokens) (number n) (g .fed) h))
+    wrong-number {n} e f h = wrong-as e (outside-32-bits (takes-kind 3 (omega arith) f) (refused-right (g .tokens) (number n) (g .fed) h))
 
-    pub names-refused : {w : List ℕ} {es : List Due} {js : List Item}
-        → p ≡ variable w → positionOf w names ≡ none → length names ≡ mostNames → feed ds 1 0 is ≡ went es js → RefusedText fields text 26 line2
-    names-refused e h l f = wrong-here e (too-many-names (takes-kind 1 (omega arith) f) (rw (g .named) h) (rw (g .named) l))
+    pub wrong-name : {w : List ℕ} {es : List Due} {js : List Item}
+        → p ≡ variable w → positionOf w names ≡ none → length names ≡ mostNames → feed ds 1 0 is ≡ went es js → Wrong fields (g .before) (g .tokens) p 26
+    wrong-name e h l f = wrong-as e (too-many-names (takes-kind 1 (omega arith) f) (rw (g .named) h) (rw (g .named) l))

@@ -12,8 +12,7 @@ use Rattle.rules.specs.declared.Node.{Node}
 use Rattle.rules.proofs.Writing.{WroteExp, WroteTest, WroteCmd, one, countExp, countTest, countCmd}
 use Rattle.rules.proofs.Sums.{sum, total, sum-add, sum-one, sum-of-ones}
 use Rattle.grammar.specs.Nodes.{sizeExp, sizeTest, sizeCmd}
-use Rattle.grammar.proofs.Proper.{ProperExp, ProperTest, ProperCmd}
-use Rattle.grammar.proofs.TableWrote.{Field}
+use Rattle.grammar.specs.Proper.{ProperExp, ProperTest, ProperCmd, Field}
 
 module _ (nodes : List Node) (F N : ℕ) where
   -- ---- nothing is missing

@@ -13,17 +13,17 @@ use Rattle.grammar.specs.Grammar.{Writes, aCommand}
 use Rattle.grammar.specs.Nodes.{tableCmd}
 use Rattle.grammar.specs.Names.{namesIn}
 use Rattle.grammar.specs.Reads.{ReadsText, Lent, Reads}
-use Rattle.grammar.proofs.Proper.{ProperExp, ProperTest, ProperCmd}
-use Rattle.grammar.proofs.TableWrote.{Field, Name}
+use Rattle.grammar.specs.Proper.{ProperExp, ProperTest, ProperCmd, Field, Name}
 use Rattle.grammar.proofs.WritesProper.{writes-bare}
 use Rattle.grammar.proofs.ReadChecks.{read-proper}
 use Rattle.writing.specs.WriteTokens.{writeCmd}
 use Rattle.writing.specs.Spell.{VariableName, Each}
 use Rattle.writing.specs.Renumber.{placeIn, renameExp, renameTest, renameCmd, namesWritten, byAppearance}
+use Rattle.writing.specs.Back.{textOf, imageOf}
 use Rattle.writing.proofs.WritesBack.{writes-back}
 use Rattle.writing.proofs.NameOrder.{appear-alike}
 use Rattle.writing.proofs.ReadOrder.{row, length-row, place-own, in-order}
-use Rattle.writing.proofs.ReadsBack.{textOf, imageOf, reads-back, rows-names}
+use Rattle.writing.proofs.ReadsBack.{reads-back, rows-names}
 
 -- ---- names that stay
 
@@ -101,7 +101,7 @@ module _ (fields : List Entry) (text img : List ℕ) (r : ReadsText fields text 
       let p : ProperCmd (Field (length fields)) (Name (length names)) (r .tree) = rw (← length-map fields codeOf, e) proper in
       let few : length (namesWritten (r .tree)) ≤ mostNames = omega (arith, names-count, r .valued .few-names) in
       let again = reads-back fields names field-names different-fields variables different (r .tree) p (r .few-nodes) few in
-      let i : imageOf fields names (r .tree) ≡ img =
+      let i : imageOf fields (r .tree) ≡ img =
       ap₂ (λ c n. image (map codeOf fields) (tableCmd 0 c) n) by-appearance names-count ∙ sym (r .is) in
       rw i at again
 

@@ -14,10 +14,10 @@ use Rattle.grammar.specs.Grammar.{Writes, aCommand}
 use Rattle.grammar.specs.Nodes.{sizeCmd, tableCmd}
 use Rattle.grammar.specs.Names.{namesIn}
 use Rattle.grammar.specs.Reads.{ReadsText, Lent, Reads}
-use Rattle.grammar.proofs.Proper.{ProperCmd}
-use Rattle.grammar.proofs.TableWrote.{Field, Name}
+use Rattle.grammar.specs.Proper.{ProperCmd, Field, Name}
 use Rattle.writing.specs.WriteTokens.{writeCmd}
 use Rattle.writing.specs.Spell.{spell, placesFor, VariableName, Each, Spellable, madeUp, madeUpField, entriesFor, listOf}
+use Rattle.writing.specs.Back.{textOf, imageOf, madeUpFields, madeUpNames}
 use Rattle.writing.specs.Renumber.{appearing, placeIn, renameTok, renameCmd, namesWritten, byAppearance}
 use Rattle.writing.proofs.WritesBack.{writes-back}
 use Rattle.writing.proofs.SpellsBack.{spells-back}
@@ -43,16 +43,9 @@ size-by-appearance c = size-renamed (placeIn (namesWritten c)) c
 -- ---- it is read
 
 module _ (fields : List Entry) (names : List (List ℕ)) where
-  abbrev pub textOf : Cmd → List ℕ
-  textOf c = spell names (map wordOf fields) (writeCmd c)
-
-  -- its names by first appearance, its nodes children first, and as many names as appear
-  abbrev pub imageOf : Cmd → List ℕ
-  imageOf c = image (map codeOf fields) (tableCmd 0 (byAppearance c)) (length (namesWritten c))
-
   pub reads-back : Each FieldName (map wordOf fields) → Different (map wordOf fields) → Each VariableName names → Different names
       → (c : Cmd) → ProperCmd (Field (length fields)) (Name (length names)) c → sizeCmd c ≤ mostNodes → length (namesWritten c) ≤ mostNames
-      → ReadsText fields (textOf c) (imageOf c)
+      → ReadsText fields (textOf fields names c) (imageOf fields c)
   unfolding namesWritten
   reads-back field-names different-fields variables different c p nodes few =
       let words = map wordOf fields in
@@ -85,7 +78,7 @@ rows-names (a-row d ds n h r) = (n, rows-names r)
 
 pub reads-image : {list : List ℕ} {fields : List Entry} (names : List (List ℕ)) (out work : ℕ) → Listed list fields → Each VariableName names → Different names
     → (c : Cmd) → ProperCmd (Field (length fields)) (Name (length names)) c → sizeCmd c ≤ mostNodes → length (namesWritten c) ≤ mostNames
-    → Lent out work (textOf fields names c) → Reads out work list (textOf fields names c) (imageOf fields names c)
+    → Lent out work (textOf fields names c) → Reads out work list (textOf fields names c) (imageOf fields c)
 reads-image {list} {fields} names out work listed variables different c p nodes few lent =
     record {
       lent = lent;
@@ -97,24 +90,21 @@ reads-image {list} {fields} names out work listed variables different c p nodes 
 -- ---- every tree has a text, with words that are made up
 
 module _ (codes : List ℕ) (N : ℕ) where
-  abbrev pub madeUpFields : List Entry
-  madeUpFields = entriesFor madeUpField codes
-
-  abbrev pub madeUpNames : List (List ℕ)
-  madeUpNames = upTo madeUp N
+  abbrev fields : List Entry
+  fields = madeUpFields codes
 
   pub some-text : length codes ≤ mostFields → Increasing 0 codes → (out work : ℕ)
       → (c : Cmd) → ProperCmd (Field (length codes)) (Name N) c → sizeCmd c ≤ mostNodes → length (namesWritten c) ≤ mostNames
-      → Lent out work (textOf madeUpFields madeUpNames c)
-      → Reads out work (listOf madeUpFields) (textOf madeUpFields madeUpNames c) (image codes (tableCmd 0 (byAppearance c)) (length (namesWritten c)))
+      → Lent out work (textOf fields (madeUpNames N) c)
+      → Reads out work (listOf fields) (textOf fields (madeUpNames N) c) (image codes (tableCmd 0 (byAppearance c)) (length (namesWritten c)))
   some-text few increasing out work c p nodes names lent =
       let v = variables-made-up N in
       let f = fields-made-up (length codes) in
       let ws = words-of madeUpField codes in
       let ks = codes-of madeUpField codes in
       let n = length-of madeUpField codes in
-      let listed : Listed (listOf madeUpFields) madeUpFields =
-      lists-back madeUpFields (rw n few) (rw ws (f .0)) (rw ws (f .1)) (rw ks increasing) in
-      let q : ProperCmd (Field (length madeUpFields)) (Name (length madeUpNames)) c = rw (n, length-upTo madeUp N) p in
-      let r = reads-image madeUpNames out work listed (v .0) (v .1) c q nodes names lent in
-      subst (λ ms. Reads out work (listOf madeUpFields) (textOf madeUpFields madeUpNames c) (image ms (tableCmd 0 (byAppearance c)) (length (namesWritten c)))) ks r
+      let listed : Listed (listOf fields) fields =
+      lists-back fields (rw n few) (rw ws (f .0)) (rw ws (f .1)) (rw ks increasing) in
+      let q : ProperCmd (Field (length fields)) (Name (length (madeUpNames N))) c = rw (n, length-upTo madeUp N) p in
+      let r = reads-image (madeUpNames N) out work listed (v .0) (v .1) c q nodes names lent in
+      subst (λ ms. Reads out work (listOf fields) (textOf fields (madeUpNames N) c) (image ms (tableCmd 0 (byAppearance c)) (length (namesWritten c)))) ks r

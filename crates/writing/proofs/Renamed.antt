@@ -8,7 +8,7 @@ use Rattle.rules.specs.Syntax.{Exp, Test, Cmd, noExp, field, int, diff, null, r
 use Rattle.grammar.specs.Tokens.{Tok, name, fieldName, number, mark, kindOf, sign, minus, kProc, kVar, kWhile, kIf, kElse, kAtom, lpar, rpar, lbrace, rbrace, semi, bars, dot, becomes, equals, below, colon}
 use Rattle.grammar.specs.Grammar.{Ended, anOperand, noOperand}
 use Rattle.grammar.specs.Nodes.{sizeExp, sizeTest, sizeCmd}
-use Rattle.grammar.proofs.Proper.{ProperExp, ProperTest, ProperCmd}
+use Rattle.grammar.specs.Proper.{ProperExp, ProperTest, ProperCmd}
 use Rattle.writing.specs.WriteTokens.{topOf, isDifference, isBare, notDotted, endOf, grouped, opensLeft, opensDot, signFirst, signed, writeInt, endedBy, writeExp, writeTest, writeBehind, writeCmd}
 use Rattle.writing.specs.Renumber.{renameTok, renameExp, renameTest, renameCmd}
 

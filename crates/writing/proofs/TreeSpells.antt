@@ -9,8 +9,7 @@ use borrow.Author.Tests.{eq-eqb}
 use Rattle.rules.specs.Syntax.{Exp, Test, Cmd, noExp, field, int, diff, null, ref, select, proc, noTest, isTrue, isFalse, equal, less, noCmd, var, call, malloc, assign, assignField, skip, seq, while, if, par, atom}
 use Rattle.grammar.specs.Tokens.{Tok, name, number, mark, kindOf, sign, reserved, single, double}
 use Rattle.grammar.specs.Grammar.{Ended, noOperand}
-use Rattle.grammar.proofs.Proper.{ProperExp, ProperTest, ProperCmd}
-use Rattle.grammar.proofs.TableWrote.{Field, Name}
+use Rattle.grammar.specs.Proper.{ProperExp, ProperTest, ProperCmd, Field, Name}
 use Rattle.writing.specs.WriteTokens.{topOf, isDifference, notDotted, grouped, opensLeft, opensDot, signed, writeInt, endedBy, writeExp, writeTest, writeBehind, writeCmd}
 use Rattle.writing.specs.Spell.{marks, hasKind, NumberFirst, Spellable}
 

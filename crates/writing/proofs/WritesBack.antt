@@ -11,7 +11,7 @@ use Rattle.rules.specs.Syntax.{Exp, Test, Cmd, noExp, field, int, diff, null, r
 use Rattle.grammar.specs.Tokens.{Tok, number, kindOf, sign}
 use Rattle.grammar.specs.Grammar.{Top, operand, selection, difference, procedure, Ending, closed, bare, Ended, anOperand, noOperand, NoDifference, NoSelection, NoSign, Behind, negated, alone, Writes, anExpression, aTest, aCommand}
 use Rattle.grammar.specs.Grammar as G
-use Rattle.grammar.proofs.Proper.{ProperExp, ProperTest, ProperCmd}
+use Rattle.grammar.specs.Proper.{ProperExp, ProperTest, ProperCmd}
 use Rattle.writing.specs.WriteTokens.{topOf, isDifference, isSelection, isBare, notDotted, endOf, grouped, opensLeft, opensDot, signFirst, signed, writeInt, endedBy, writeExp, writeTest, writeBehind, writeCmd}
 
 -- ---- parentheses where they are needed

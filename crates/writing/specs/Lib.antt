@@ -1,3 +1,4 @@
 pub mod WriteTokens
 pub mod Spell
 pub mod Renumber
+pub mod Back

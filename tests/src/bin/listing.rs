@@ -5,11 +5,11 @@
 
 use flagcopper_tests::generate::case;
 use flagcopper_tests::independent::listing::listing;
+use flagcopper_tests::lanes::all_right;
 use flagcopper_tests::random::Random;
 use flagcopper_tests::x86::command;
 use std::path::Path;
 use std::process::ExitCode;
-use std::thread::{available_parallelism, scope};
 
 fn here(directory: &Path) -> String {
     let file = |name: &str| std::fs::read(directory.join(name)).ok();
@@ -35,34 +35,23 @@ fn laid_out(directory: &Path, seed: u64, number: u64) -> std::io::Result<()> {
     Ok(())
 }
 
-/// Whether the program prints the same on these cases, which are laid out in the directory one after the other.
-fn same(program: &Path, directory: &Path, seed: u64, cases: impl Iterator<Item = u64>) -> std::io::Result<bool> {
-    std::fs::create_dir_all(directory)?;
-    for number in cases {
-        laid_out(directory, seed, number)?;
-        let given = command(program).current_dir(directory).output()?;
-        let wanted = here(directory);
-        if given.stdout != wanted.as_bytes() {
-            println!("case {number} of seed {seed} lies in {}; wanted:\n{wanted}", directory.display());
-            println!("given:\n{}", String::from_utf8_lossy(&given.stdout));
-            return Ok(false);
-        }
+/// Whether the program prints the same on a case, which is laid out in the directory.
+fn same(program: &Path, directory: &Path, seed: u64, number: u64) -> std::io::Result<bool> {
+    laid_out(directory, seed, number)?;
+    let given = command(program).current_dir(directory).output()?;
+    let wanted = here(directory);
+    let same = given.stdout == wanted.as_bytes();
+    if !same {
+        println!("case {number} of seed {seed} lies in {}; wanted:\n{wanted}", directory.display());
+        println!("given:\n{}", String::from_utf8_lossy(&given.stdout));
     }
-    Ok(true)
+    Ok(same)
 }
 
-/// The same on all cases, in as many lanes as the machine has processors: under an emulator a start takes its time.
 fn compared(program: &str, cases: u64, seed: u64) -> std::io::Result<bool> {
     let program = &std::fs::canonicalize(program)?;
     let directory = &Path::new(env!("CARGO_MANIFEST_DIR")).join("../target/listings");
-    let lanes = available_parallelism()?.get();
-    let lane =
-        |lane: usize| same(program, &directory.join(lane.to_string()), seed, (lane as u64..cases).step_by(lanes));
-    let same = scope(|scope| {
-        let started: Vec<_> = (0..lanes).map(|number| scope.spawn(move || lane(number))).collect();
-        started.into_iter().map(|lane| lane.join().expect("no lane panics")).collect::<Result<Vec<_>, _>>()
-    })?;
-    let same = same.into_iter().all(|same| same);
+    let same = all_right(directory, cases, |lane, number| same(program, lane, seed, number))?;
     if same {
         println!("{cases} listings of seed {seed} are the same");
     }

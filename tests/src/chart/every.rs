@@ -107,7 +107,8 @@ impl Every<'_> {
     fn judge(&mut self, goes_on: bool) -> Result<usize, String> {
         // a line for each word and one for the end, so that the line tells the place
         let text = self.words.join("\n") + "\n";
-        let given = self.reader.read(text.as_bytes(), b"f,3\n", &mut self.work, &mut self.out);
+        let work = &mut self.work[..reading_words(text.len())];
+        let given = self.reader.read(text.as_bytes(), b"f,3\n", work, &mut self.out);
         let line = self.words.len() as u32 + u32::from(goes_on);
         let trees = if goes_on { self.chart.readings() } else { Vec::new() };
         let wanted = match trees.as_slice() {

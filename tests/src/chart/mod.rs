@@ -49,6 +49,17 @@ fn judged(text: &[u8], rows: &[(&str, u16)]) -> Result<Vec<u8>, Reading> {
     unreachable!("the end is a place")
 }
 
+/// The token that a spelling is, whatever its name, field or number.
+fn kind(word: &str, before_digit: bool) -> Token {
+    match reserved(word).or(symbol(word)) {
+        Some("-") => Token::Minus { sign: before_digit },
+        Some(mark) => Token::Mark(mark),
+        None if is_number(word) => Token::Number(None),
+        None if word.starts_with(|c: char| c.is_uppercase()) => Token::Name(0),
+        None => Token::Field(0),
+    }
+}
+
 /// Goes on with a place, or says what is wrong with it: 22 to 26, in that order.
 fn taken<'a>(
     chart: &mut Earley,
@@ -59,13 +70,7 @@ fn taken<'a>(
     let Some(word) = spelled(place.spelling) else {
         return refused(22, place.line);
     };
-    let token = match reserved(word).or(symbol(word)) {
-        Some("-") => Token::Minus { sign: place.before_digit },
-        Some(mark) => Token::Mark(mark),
-        None if is_number(word) => Token::Number(None),
-        None if word.starts_with(|c: char| c.is_uppercase()) => Token::Name(0),
-        None => Token::Field(0),
-    };
+    let token = kind(word, place.before_digit);
     if !chart.push(token) {
         return refused(23, place.line);
     }
@@ -107,4 +112,29 @@ fn ended(chart: &Earley, rows: &[(&str, u16)], names: usize, line: u32) -> Resul
     }
     let codes: Vec<u16> = rows.iter().map(|(_, code)| *code).collect();
     Ok(tree.image(&codes, names as u16).bytes())
+}
+
+/// The words of those kinds with which the text can go on from a place, and last whether it can end there: `encoding::could_be` by the chart.
+pub fn could_be(text: &[u8], place: usize) -> Vec<&'static str> {
+    const MARKS: &str = "null proc true false var malloc skip while if else atom ( ) { } ; || . = == < :";
+    let before = places(&text[..place]).len() - 1; // the end is a place
+    let mut chart = Earley::default();
+    for place in &places(text)[..before] {
+        let word = spelled(place.spelling).expect("what stands before the place is right");
+        assert!(chart.push(kind(word, place.before_digit)), "what stands before the place is right");
+    }
+    let values = [(Token::Name(0), "a name"), (Token::Field(0), "a field"), (Token::Number(None), "a number")];
+    let minuses = [true, false].map(|sign| (Token::Minus { sign }, "-"));
+    let marks = MARKS.split(' ').map(|mark| (Token::Mark(mark), mark));
+    let mut could: Vec<_> = values.into_iter().chain(minuses).chain(marks).collect();
+    could.retain(|(token, _)| {
+        let goes_on = chart.push(*token);
+        if goes_on {
+            chart.pop();
+        }
+        goes_on
+    });
+    could.dedup_by_key(|(_, word)| *word);
+    let ends = (!chart.readings().is_empty()).then_some("the end");
+    could.into_iter().map(|(_, word)| word).chain(ends).collect()
 }

@@ -1,7 +1,7 @@
 //! The library on a machine whose programs can't link it: each call goes to `bridge.c`, which `build.rs` built with the library and which
 //! runs under the kit's emulator, one for each thread. It gets all that is lent and sends it back whole.
 
-use super::{RawAnswer, RawVerdict};
+use super::{RawAnswer, RawReading, RawText, RawVerdict};
 use crate::x86::command;
 use std::cell::RefCell;
 use std::io::{Read, Result, Write};
@@ -14,6 +14,9 @@ enum Function {
     Check = 2,
     Run = 3,
     Trace = 4,
+    ReadWords = 5,
+    Read = 6,
+    Write = 7,
 }
 
 struct Bridge(Child);
@@ -44,36 +47,75 @@ thread_local! {
 /// Words of the answer before what was lent.
 const WORDS: usize = 6;
 
-fn call(
-    function: Function,
-    words_to_check: usize,
-    script: &[u8],
-    choices: &[u8],
-    workspace: &mut [u64],
-    rows: &mut [u32],
-) -> [u64; WORDS] {
-    let numbers =
-        [function as usize, words_to_check, script.len(), choices.len(), workspace.len(), rows.len()].map(|n| n as u64);
-    let mut sent: Vec<u8> = numbers.into_iter().flat_map(u64::to_le_bytes).collect();
-    sent.extend(script);
-    sent.extend(choices);
-    sent.extend(workspace.iter().flat_map(|word| word.to_le_bytes()));
-    sent.extend(rows.iter().flat_map(|word| word.to_le_bytes()));
-    let mut got = vec![0; 8 * WORDS + 8 * workspace.len() + 4 * rows.len()];
-    BRIDGE.with_borrow_mut(|bridge| bridge.exchange(&sent, &mut got)).expect("the bridge answers");
-    let (told, lent) = got.split_at(8 * WORDS);
-    let (of_workspace, of_rows) = lent.split_at(8 * workspace.len());
-    read(of_workspace, workspace, u64::from_le_bytes);
-    read(of_rows, rows, u32::from_le_bytes);
-    let mut answer = [0; WORDS];
-    read(told, &mut answer, u64::from_le_bytes);
-    answer
+/// What is lent, as the bytes that cross the bridge.
+trait Lent {
+    fn bytes(&self) -> usize;
+    fn send(&self, bytes: &mut Vec<u8>);
+    fn receive(&mut self, bytes: &[u8]);
 }
 
-fn read<T, const N: usize>(bytes: &[u8], words: &mut [T], word: fn([u8; N]) -> T) {
-    for (place, bytes) in words.iter_mut().zip(bytes.chunks_exact(N)) {
-        *place = word(bytes.try_into().expect("a chunk is so long"));
+impl Lent for [u8] {
+    fn bytes(&self) -> usize {
+        self.len()
     }
+
+    fn send(&self, bytes: &mut Vec<u8>) {
+        bytes.extend(self);
+    }
+
+    fn receive(&mut self, bytes: &[u8]) {
+        self.copy_from_slice(bytes);
+    }
+}
+
+macro_rules! lent_words {
+    ($($word:ty)*) => {$(
+        impl Lent for [$word] {
+            fn bytes(&self) -> usize {
+                size_of_val(self)
+            }
+
+            fn send(&self, bytes: &mut Vec<u8>) {
+                bytes.reserve(self.bytes());
+                self.iter().for_each(|word| bytes.extend_from_slice(&word.to_le_bytes()));
+            }
+
+            fn receive(&mut self, bytes: &[u8]) {
+                for (word, bytes) in self.iter_mut().zip(bytes.chunks_exact(size_of::<$word>())) {
+                    *word = <$word>::from_le_bytes(bytes.try_into().expect("a chunk is so long"));
+                }
+            }
+        }
+    )*};
+}
+
+lent_words!(u32 u64);
+
+fn nothing() -> &'static mut [u8] {
+    &mut []
+}
+
+fn call<A: Lent + ?Sized, B: Lent + ?Sized>(
+    function: Function,
+    number: usize,
+    given: [&[u8]; 2],
+    first: &mut A,
+    second: &mut B,
+) -> [u64; WORDS] {
+    let numbers = [function as usize, number, given[0].len(), given[1].len(), first.bytes(), second.bytes()];
+    let mut sent: Vec<u8> = numbers.into_iter().flat_map(|number| (number as u64).to_le_bytes()).collect();
+    given.into_iter().for_each(|bytes| sent.extend(bytes));
+    first.send(&mut sent);
+    second.send(&mut sent);
+    let mut got = vec![0; 8 * WORDS + first.bytes() + second.bytes()];
+    BRIDGE.with_borrow_mut(|bridge| bridge.exchange(&sent, &mut got)).expect("the bridge answers");
+    let (told, lent) = got.split_at(8 * WORDS);
+    let (of_first, of_second) = lent.split_at(first.bytes());
+    first.receive(of_first);
+    second.receive(of_second);
+    let mut answer = [0; WORDS];
+    answer.receive(told);
+    answer
 }
 
 /// A number of 32 bits, which the bridge sends as a word.
@@ -87,19 +129,33 @@ fn told([refusal, place, end, number, node, steps]: [u64; WORDS]) -> RawAnswer {
 }
 
 pub fn size() -> usize {
-    call(Function::Size, 0, &[], &[], &mut [], &mut [])[0] as usize
+    call(Function::Size, 0, [&[], &[]], nothing(), nothing())[0] as usize
 }
 
 pub fn check(script: &[u8], workspace_words: usize) -> RawVerdict {
     let [verdict, number, place, ..] =
-        call(Function::Check, workspace_words, script, &[], &mut [], &mut []).map(narrow);
+        call(Function::Check, workspace_words, [script, &[]], nothing(), nothing()).map(narrow);
     RawVerdict { verdict, number, place }
 }
 
 pub fn run(script: &[u8], choices: &[u8], workspace: &mut [u64]) -> RawAnswer {
-    told(call(Function::Run, 0, script, choices, workspace, &mut []))
+    told(call(Function::Run, 0, [script, choices], workspace, nothing()))
 }
 
 pub fn trace(script: &[u8], choices: &[u8], workspace: &mut [u64], rows: &mut [u32]) -> RawAnswer {
-    told(call(Function::Trace, 0, script, choices, workspace, rows))
+    told(call(Function::Trace, 0, [script, choices], workspace, rows))
+}
+
+pub fn read_words(text_bytes: usize) -> usize {
+    call(Function::ReadWords, text_bytes, [&[], &[]], nothing(), nothing())[0] as usize
+}
+
+pub fn read(text: &[u8], list: &[u8], work: &mut [u32], out: &mut [u8]) -> RawReading {
+    let [verdict, number, line, length, ..] = call(Function::Read, 0, [text, list], work, out);
+    RawReading { verdict: narrow(verdict), number: narrow(number), line: line as usize, length: length as usize }
+}
+
+pub fn write(image: &[u8], list: &[u8], out: &mut [u8]) -> RawText {
+    let [verdict, number, length, ..] = call(Function::Write, 0, [image, list], nothing(), out);
+    RawText { verdict: narrow(verdict), number: narrow(number), length: length as usize }
 }

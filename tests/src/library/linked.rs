@@ -1,7 +1,7 @@
 //! The library as it is linked, on x86-64. The only file with `unsafe`: each call passes pointers and lengths of slices that
-//! live through the call, and the workspace and the rows are lent mutably and to nobody else.
+//! live through the call, and what is lent to be written is lent mutably and to nobody else.
 
-use super::{RawAnswer, RawVerdict};
+use super::{RawAnswer, RawReading, RawText, RawVerdict};
 
 extern "C" {
     fn flagcopper_size() -> usize;
@@ -24,6 +24,25 @@ extern "C" {
         rows: *mut u32,
         row_words: usize,
     ) -> RawAnswer;
+    fn flagcopper_read_words(text_bytes: usize) -> usize;
+    fn flagcopper_read(
+        text: *const u8,
+        text_bytes: usize,
+        list: *const u8,
+        list_bytes: usize,
+        work: *mut u32,
+        work_words: usize,
+        out: *mut u8,
+        out_bytes: usize,
+    ) -> RawReading;
+    fn flagcopper_write(
+        image: *const u8,
+        image_bytes: usize,
+        list: *const u8,
+        list_bytes: usize,
+        out: *mut u8,
+        out_bytes: usize,
+    ) -> RawText;
 }
 
 pub fn size() -> usize {
@@ -60,4 +79,27 @@ pub fn trace(script: &[u8], choices: &[u8], workspace: &mut [u64], rows: &mut [u
             rows.len(),
         )
     }
+}
+
+pub fn read_words(text_bytes: usize) -> usize {
+    unsafe { flagcopper_read_words(text_bytes) }
+}
+
+pub fn read(text: &[u8], list: &[u8], work: &mut [u32], out: &mut [u8]) -> RawReading {
+    unsafe {
+        flagcopper_read(
+            text.as_ptr(),
+            text.len(),
+            list.as_ptr(),
+            list.len(),
+            work.as_mut_ptr(),
+            work.len(),
+            out.as_mut_ptr(),
+            out.len(),
+        )
+    }
+}
+
+pub fn write(image: &[u8], list: &[u8], out: &mut [u8]) -> RawText {
+    unsafe { flagcopper_write(image.as_ptr(), image.len(), list.as_ptr(), list.len(), out.as_mut_ptr(), out.len()) }
 }

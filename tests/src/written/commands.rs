@@ -23,7 +23,7 @@ impl Text {
     /// A command; behind an operand, no sign may begin it.
     async fn command(self: Rc<Self>, behind_operand: bool) -> Result<usize, Refused> {
         if self.takes(Wrong::NodesAtOnce) && self.too_many_nodes() {
-            return Err(Refused(27, 0));
+            return Err(Refused::nowhere(27));
         }
         match self.look()? {
             Kind::Mark("var") => {

@@ -8,7 +8,7 @@ mod calls;
 mod commands;
 mod expressions;
 mod list;
-mod places;
+pub mod places;
 mod text;
 
 use crate::image::Image;
@@ -76,9 +76,24 @@ impl Wrong {
     ];
 }
 
-/// A refusal's number and line.
+/// A refusal's number and line, and from where to where in the text the place stands at which it is given, if it is given at one.
 #[derive(Clone, Copy, Debug, PartialEq, Eq)]
-struct Refused(u32, u32);
+pub struct Refused {
+    pub number: u32,
+    pub line: u32,
+    pub place: Option<(usize, usize)>,
+}
+
+impl Refused {
+    fn nowhere(number: u32) -> Refused {
+        Refused { number, line: 0, place: None }
+    }
+}
+
+/// The image of a text for which enough is lent, or how and where it is refused.
+pub fn judged(text: &[u8], list: &[u8]) -> Result<Vec<u8>, Refused> {
+    image(text, list, reading_words(text.len()), LARGEST_IMAGE, None).map(|image| image.bytes())
+}
 
 /// The image of a text, or its refusal, by the lengths of what is lent.
 pub fn read(text: &[u8], list: &[u8], words_lent: usize, out_len: usize) -> Reading {
@@ -88,18 +103,18 @@ pub fn read(text: &[u8], list: &[u8], words_lent: usize, out_len: usize) -> Read
 fn read_with(text: &[u8], list: &[u8], words_lent: usize, out_len: usize, wrong: Option<Wrong>) -> Reading {
     match image(text, list, words_lent, out_len, wrong) {
         Ok(image) => Reading::Image(image.bytes()),
-        Err(Refused(number, line)) => Reading::Refused { number, line },
+        Err(Refused { number, line, .. }) => Reading::Refused { number, line },
     }
 }
 
 fn image(text: &[u8], list: &[u8], words_lent: usize, out_len: usize, wrong: Option<Wrong>) -> Result<Image, Refused> {
     if out_len < LARGEST_IMAGE {
-        return Err(Refused(20, 0));
+        return Err(Refused::nowhere(20));
     }
-    let listed = list::list(list, wrong).ok_or(Refused(21, 0));
+    let listed = list::list(list, wrong).ok_or(Refused::nowhere(21));
     let list_first = wrong == Some(Wrong::ListFirst) && listed.is_err();
     if words_lent < reading_words(text.len()) && !list_first {
-        return Err(Refused(28, 0));
+        return Err(Refused::nowhere(28));
     }
     Text::read(text, listed?, wrong)
 }

@@ -39,7 +39,7 @@ impl Text {
         });
         text.calls.run(Box::pin(Rc::clone(&text).whole()))?;
         if text.too_many_nodes() {
-            return Err(Refused(27, 0));
+            return Err(Refused::nowhere(27));
         }
         let names = text.names.borrow().len() as u16;
         let codes = text.codes();
@@ -67,7 +67,8 @@ impl Text {
             before = before.trim_ascii_end();
         }
         let ends_line = |byte: &&u8| **byte == 10 || (**byte == 13 && self.takes(Wrong::LineAtReturn));
-        Err(Refused(number, 1 + before.iter().filter(ends_line).count() as u32))
+        let line = 1 + before.iter().filter(ends_line).count() as u32;
+        Err(Refused { number, line, place: Some((place.start, place.end)) })
     }
 
     /// What stands at the place. A bad byte is told before anything else is asked of it.

@@ -5,14 +5,14 @@ use borrow.Author.Needs.{needs}
 use Rattle.checker.proofs.nodes.words_reason.Statement.{statement}
 use Rattle.checker.proofs.nodes.words_reason.Tie as tie
 
-blank-words-requires : tie.Need-blank-words-requires
-blank-words-requires c κs = search needs
+fits-words-requires : tie.Need-fits-words-requires
+fits-words-requires c κs = search needs
 
 returns : tie.Need-returns
 returns c = search wording
 
-right-words-requires : tie.Need-right-words-requires
-right-words-requires c κs = search needs
+blank-words-requires : tie.Need-blank-words-requires
+blank-words-requires c κs = search needs
 
 returns-2 : tie.Need-returns-2
 returns-2 c = search wording
@@ -22,4 +22,4 @@ returns-3 c = search wording
 
 pub words-reason-spec : {M : Type 1} → statement M
 words-reason-spec =
-    tie.close (tie.spec blank-words-requires returns right-words-requires returns-2 returns-3)
+    tie.close (tie.spec fits-words-requires returns blank-words-requires returns-2 returns-3)

@@ -32,7 +32,7 @@ returns-2 c at line f = search (needs, judged-order)
 
 returns-3 : tie.Need-returns-3
 returns-3 c at line f =
-    judged-taken _ _ at line _ _ _ f _ _ _ _ _ (c .before .worth-of .result) _ (c .before .before .before .before .before .before .taker .ensures) (c .before .before .before .before .t .given .1) (c .before .worth-of .ensures) (c .valued .ensures)
+    judged-taken _ _ at line _ _ _ _ _ _ _ _ (c .before .worth-of .result) _ (c .before .before .before .before .before .before .taker .ensures) (c .before .before .before .before .t .given .1) (c .before .worth-of .ensures) (c .valued .ensures)
 
 pub judge-spec : {M : Type 1} → statement M
 judge-spec =

@@ -48,7 +48,7 @@ same-length-3 c = search needs
 returns : tie.Need-returns Inv-loop μ-loop
 returns c =
     let e = c .at-end .ensures in
-    ends-told (c .before .before .before .before .before .before .before .before .before .before .before .before .before .before .before .before .before .pre .1 .0) (c .before .before .before .before .before .before .before .before .before .before .before .loop .inv .0) (c .before .before .before .before .before .before .before .before .before .before .next .result) (c .before .before .before .before .before .before .before .before .before .before .next .ensures) (c .before .before .before .before .before .before .before .before .before .if1 .taken) (c .before .before .before .before .before .end-text .result) (c .before .before .before .before .before .end-text .ensures) (c .at-end .result) (e .0 .0) (e .0 .1) (e .0 .2) (e .1 .0) (e .1 .1)
+    ends-told (c .before .before .before .before .before .before .before .before .before .before .before .before .before .before .before .before .before .pre .1 .0) (c .before .before .before .before .before .before .before .before .before .before .before .loop .inv .0) (c .before .before .before .before .before .before .before .before .before .before .next .result) (c .before .before .before .before .before .before .before .before .before .before .next .ensures) (c .before .before .before .before .before .before .before .before .before .if1 .taken) (c .before .before .before .before .before .end-text .result) (c .before .before .before .before .before .end-text .ensures) (c .at-end .result) (e .0 .0) (e .0 .1) (e .0 .2) (e .1 .0) (e .1 .1) (e .0 .3) (e .0 .4)
 
 read-place-requires : tie.Need-read-place-requires Inv-loop μ-loop
 read-place-requires c κs =
@@ -68,7 +68,7 @@ returns-2 : tie.Need-returns-2 Inv-loop μ-loop
 returns-2 c =
     let u = c .before .before .before .before .before .before .before .before .before .before .before .before .before .before .before .loop .inv .0 in
     let f = faced u (c .before .before .before .before .before .before .before .before .before .before .before .before .before .before .next .result) (c .before .before .before .before .before .before .before .before .before .before .before .before .before .before .next .ensures) (c .before .before .before .before .before .before .before .before .before .before .before .before .before .if1 .left) in
-    wrong-told f (c .before .before .before .before .before .before .before .read-place .result) (c .before .before .before .before .before .before .before .read-place .ensures) _ (c .if2 .taken) refl refl
+    wrong-told f (c .before .before .before .before .before .before .before .read-place .result) (c .before .before .before .before .before .before .before .read-place .ensures) _ (c .if2 .taken) refl refl refl refl
 
 loop-less : tie.Need-loop-less Inv-loop μ-loop
 loop-less c =

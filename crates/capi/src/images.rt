@@ -1,0 +1,37 @@
+// Images as text for programs in C and Rust, as written.rt has the reader: a wrapper with its answer as numbers.
+use writer::Text;
+ghost use mathlib.Core.Path.{_≡_};
+ghost use Rattle.capi.specs.Images.{speltOf, TellsText};
+
+// The answer of the writer: verdict 1 is a text with its length, 2 a refusal with its number.
+#[repr(C)]
+pub struct Spelt {
+    pub verdict: u32,
+    pub number: u32,
+    pub length: usize,
+}
+
+fn tell_text(a: Text) -> Spelt
+    ensures { λ r. ⌜ r ≡ speltOf a ⌝ }
+{
+    match a {
+        Text::Bytes(n) => Spelt {
+            verdict: 1,
+            number: 0,
+            length: n,
+        },
+        Text::Refused(k) => Spelt {
+            verdict: 2,
+            number: k,
+            length: 0,
+        },
+    }
+}
+
+// An image as text, in `out`, or why it can't be written.
+#[no_mangle]
+pub extern "C" fn flagcopper_write(image: &[u8], list: &[u8], out: &mut [u8]) -> Spelt
+    ensures { λ r. ⌜ TellsText (now (image .entry)) (now (list .entry)) r (now (out .entry)) (now (out .exit)) ⌝ }
+{
+    tell_text(writer::write(image, list, out))
+}

@@ -1,0 +1,10 @@
+pub mod WordLaws
+pub mod LineLaws
+pub mod CouldLaws
+pub mod SecondLaws
+pub mod FaultLaws
+pub mod AnswerLaws
+pub mod FileLaws
+pub mod Cut
+pub mod Cases
+pub mod OneAnswer

@@ -1,0 +1,7 @@
+pub mod DrawLaws
+pub mod RunLaws
+pub mod DecimalLaws
+pub mod GapLaws
+pub mod MarkLaws
+pub mod SpellLaws
+pub mod Determined

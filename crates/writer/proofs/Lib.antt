@@ -1,0 +1,13 @@
+pub mod FormLaws
+pub mod EndLaws
+pub mod TokenLaws
+pub mod TestLaws
+pub mod WordLaws
+pub mod WalkLaws
+pub mod TextLaws
+pub mod CodeLaws
+pub mod AnswerLaws
+pub mod Determined
+pub mod ReadBack
+pub mod Cases
+pub mod Visible
