@@ -24,7 +24,7 @@ unfolding opens rowThen rowsFrom rows rowWords stepRow rowsOf digitCountBy digit
 lists = tt
 
 -- fields a 12, b 700: (proc y: var x; var w; {malloc(x); {malloc(w); {x.a = w; {x.b = b; {w.a = proc v: skip;
--- {w.b = null - null; {x = -7; w = null - null}}}}}}})(proc z: skip)
+-- {w.b = 5 - 2; {x = -7; w = null - null}}}}}}})(proc z: skip)
 unfoldable pub script : List ℕ
 script =
     image (12 ∷ 700 ∷ [])
@@ -45,8 +45,8 @@ script =
     ∷ node 36 10 11 13
     ∷ node 5 2 0 0
     ∷ node 1 2 0 0
-    ∷ node 4 0 0 0
-    ∷ node 4 0 0 0
+    ∷ node 2 5 0 0
+    ∷ node 2 2 0 0
     ∷ node 3 17 18 0
     ∷ node 36 15 16 19
     ∷ node 2 65529 65535 0
@@ -92,7 +92,7 @@ pub listing-of-each-value
     ∷ ascii "object 0 field 12 object 1\n"
     ∷ ascii "object 0 field 700 field 700\n"
     ∷ ascii "object 1 field 12 proc 13 2\n"
-    ∷ ascii "object 1 field 700 fault 1\n"
+    ∷ ascii "object 1 field 700 int 3\n"
     ∷ [])
 unfolding script lists
 listing-of-each-value = refl

@@ -9,7 +9,7 @@ use Rattle.rules.proofs.Opens.{opens}
 use Rattle.rules.specs.Numbers.{stopNo, endNo}
 use Rattle.words.specs.Lent.{rowThen, rowsFrom, rows, rowWords, stepRow, rowsOf}
 use Rattle.rules.specs.declared.Chain.the-variants.{Empty, From}
-use Rattle.rules.specs.declared.Value.the-variants.{Null, Int, Field, Proc, Fault}
+use Rattle.rules.specs.declared.Value.the-variants.{Null, Int, Field, Proc}
 use Rattle.rules.specs.declared.Stop.the-variants.{Faulted, Full, OutOfRange}
 use Rattle.rules.specs.declared.End.the-variants.{UsedUp, Stopped}
 use Rattle.text.specs.Ascii.{ascii}
@@ -50,7 +50,6 @@ pub lines-example
     ∷ cellLine coded 3 (record { name = 7; outer = Empty; cell = Proc 8 Empty })
     ∷ cellLine coded 0 (record { name = 0; outer = Empty; cell = Int 4294967295 })
     ∷ cellLine coded 0 (record { name = 0; outer = Empty; cell = Int 2147483648 })
-    ∷ cellLine coded 0 (record { name = 0; outer = Empty; cell = Fault 7 })
     ∷ printed (some coded) none
     ∷ printed (some coded) (some (replicate 4097 0))
     ∷ [])
@@ -65,7 +64,6 @@ pub lines-example
     ∷ ascii "cell 3 name 7 proc 8 none\n"
     ∷ ascii "cell 0 name 0 int -1\n"
     ∷ ascii "cell 0 name 0 int -2147483648\n"
-    ∷ ascii "cell 0 name 0 fault 7\n"
     ∷ ascii "no input\n"
     ∷ ascii "choices too long\n"
     ∷ [])
