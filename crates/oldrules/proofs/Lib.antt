@@ -1,0 +1,2 @@
+pub mod Unfaulted
+pub mod EqualSteps
