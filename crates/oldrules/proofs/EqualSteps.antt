@@ -2,7 +2,7 @@
 -- and stores no fault; or it stores one, and now it stops with it, room or none, since a fault is asked before room.
 -- Assumes nothing.
 use Prim.Native.Nat.{ℕ}
-use mathlib.Core.Path.{_≡_, refl, sym, subst, _∙_}
+use mathlib.Core.Path.{_≡_, refl, sym, _∙_}
 use mathlib.Core.Bool.{Bool, true, false, cond}
 use mathlib.Core.Option.{Option, none, some}
 use mathlib.Core.List.{List}
@@ -10,7 +10,6 @@ use native.Mathlib.Omega.{arith}
 use lib.ListN.{getElem?}
 use Rattle.rules.specs.declared.Chain.{Chain}
 use Rattle.rules.specs.declared.Effect.{Effect}
-use Rattle.rules.specs.declared.Next.{Next}
 use Rattle.rules.specs.declared.Stop.the-variants.{Faulted, Full}
 use Rattle.rules.specs.State.{Store}
 use Rattle.rules.specs.Script.{Script, scriptOf}

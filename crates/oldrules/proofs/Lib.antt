@@ -1,2 +1,4 @@
 pub mod Unfaulted
 pub mod EqualSteps
+pub mod FirstStores
+pub mod EqualRuns

@@ -2,11 +2,10 @@
 -- it stores a fault that stops it now. It needs what demand 3 gives: the procedure that is called, or the field that is
 -- assigned to, is there; else the old rules, which look for it before they store the fault, would be stuck where the rules
 -- fault. Assumes nothing.
-use Prim.Native.Nat.{ℕ, zero, suc, _<_, _≤_}
-use mathlib.Core.Path.{_≡_, refl, sym, ap, fun-ext, _∙_}
-use mathlib.Core.Option.{none, some}
+use Prim.Native.Nat.{ℕ, zero, suc, _≤_}
+use mathlib.Core.Path.{_≡_, refl, ap, fun-ext}
+use mathlib.Core.Option.{some}
 use mathlib.Core.List.{[]}
-use lib.Dec.{T}
 use native.Mathlib.Omega.{arith}
 use Rattle.laws.specs.Lists.{entry-there}
 use Rattle.rules.specs.Syntax.{Exp, Cmd, noCmd, var, call, malloc, assign, assignField, skip, seq, while, if, par, atom}
@@ -21,9 +20,9 @@ use Rattle.rules.specs.Script.{Script, formal}
 use Rattle.rules.specs.Eval.{faultNo, noObject, noField, noProcedure, Res, ok, fault, stuck, _>>=_, there, Closure, closure, asObject, asField, asProc, reading, plainly, eval}
 use Rattle.rules.specs.Step.{Deed, deed, enter, calling, putting, execBy, exec}
 use Rattle.rules.proofs.StoreLaws.{object-there}
-use Rattle.safety.specs.Safe.{FitExp, FitCmd, single, Bears, IsProc, Real, RealObject, RealStore}
-use Rattle.safety.specs.Fits.{RealDeed, Fine}
-use Rattle.safety.proofs.Fine.{Of, fine-object, fine-field, fine-proc, fine-object-at, fine-field-of, fine-eval}
+use Rattle.safety.specs.Safe.{FitExp, FitCmd, Bears, IsProc, Real, RealObject, RealStore}
+use Rattle.safety.specs.Fits.{Fine}
+use Rattle.safety.proofs.Fine.{Of, fine-object, fine-field, fine-proc, fine-eval}
 use Rattle.oldrules.specs.BeforeOrder2.{Place, aCell, aField, unfaulted, newestAt, raised, valueOr, oldReads, OldDeed, oldDeed, asNow, storing, oldEval, others, oldExec}
 
 -- ---- reading
