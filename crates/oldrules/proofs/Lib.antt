@@ -2,3 +2,4 @@ pub mod Unfaulted
 pub mod EqualSteps
 pub mod FirstStores
 pub mod EqualRuns
+pub mod OldCases

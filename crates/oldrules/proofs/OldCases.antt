@@ -1,0 +1,178 @@
+-- Worked cases of the rules before order 2: what was proved of them while they were the rules, that of stored faults. So the
+-- comparison (EqualRuns) is with those rules. Then the same scripts by the rules, as order 2 has them. Assumes nothing.
+use Prim.Native.Nat.{ℕ}
+use mathlib.Core.Path.{_≡_, refl}
+use mathlib.Core.Option.{some}
+use mathlib.Core.List.{List, [], _∷_, _++_, map}
+use lib.ListN.{replicate}
+use Rattle.rules.specs.Published.{image}
+use Rattle.rules.proofs.Writing.{four}
+use Rattle.rules.proofs.Opens.{opens, told-so, all-told, _also_}
+use Rattle.rules.specs.declared.Chain.the-variants.{Empty, From}
+use Rattle.rules.specs.declared.Value.the-variants.{Nothing, Null, Int, Object, Proc}
+use Rattle.rules.specs.declared.Verdict.the-variants.{Accepted}
+use Rattle.rules.specs.State.{Store, frame, size}
+use Rattle.rules.specs.Script.{scriptOf}
+use Rattle.rules.specs.Refusals.{check}
+use Rattle.rules.specs.Control.{command}
+use Rattle.rules.specs.Run.{Ran, ran, runFrom}
+use Rattle.cases.proofs.Cases.{Tried, tried, begun, Shown, shown, show, partsOf, got, want}
+use Rattle.cases.proofs.CasesMore.{argumentFaults, fieldFaults}
+use Rattle.cases.proofs.CasesLimits.{calling, calleeFaults, framesOf, manyFrames, within}
+use Rattle.oldrules.specs.BeforeOrder2.{Place, aCell, aField, samePlace, StoredFault, OldStore, newestAt, unfaulted, raised, valueOr, oldReads, asNow, storing, oldEval, others, oldExec, noted, oldApply, oldPlanned, oldMachine, oldRun}
+
+-- ---- what is told of an old run: as of a run, `Nothing` where a fault is stored; and the stored faults, newest first
+
+abbrev pub storedAt : Place → ℕ → ℕ → StoredFault
+storedAt p k n = record { place = p; number = k; arose = n }
+
+pub data OldShown : Type 0 where
+  oldShown : Shown → List StoredFault → OldShown
+
+pub data OldTried : Type 0 where
+  oldTried : List ℕ → List ℕ → OldShown → OldTried  -- bytes, choices, what must be told
+  oldBegun : Ran OldStore → OldShown → OldTried  -- a run that begins elsewhere, what must be told
+
+-- its values
+unfoldable pub valuesOf : Ran OldStore → Ran Store
+valuesOf r = ran (r .end) (r .steps) (r .store .values) (r .control)
+
+unfoldable pub oldGot : OldTried → OldShown
+oldGot (oldTried img cs t) = oldShown (show (check [] size img) (valuesOf (oldRun img cs))) (oldRun img cs .store .faults)
+oldGot (oldBegun r t) = oldShown (show Accepted (valuesOf r)) (r .store .faults)
+
+unfoldable pub oldWant : OldTried → OldShown
+oldWant (oldTried img cs t) = t
+oldWant (oldBegun r t) = t
+
+-- at the command of a node, in the chain of frame 0, with this store and no fault stored
+unfoldable pub oldWithin : List ℕ → ℕ → Store → List ℕ → Ran OldStore
+oldWithin img n s cs = runFrom (oldMachine img) cs 0 (unfaulted s) (some (command n (From 0)))
+
+-- ---- further scripts
+
+-- `var x; {malloc(x); {x.f = null - 1; {x.k = -2147483648 - 1; x = x.h}}}`, k and h fields by their index;
+-- x is name 0, f is field 1 of two
+abbrev pub twoFaults : ℕ → ℕ → List ℕ
+twoFaults k h =
+    image (7 ∷ 12 ∷ [])
+    (four 34 0 0 0  -- 0: malloc(x)
+    ∷ four 5 0 0 0  -- 1: x
+    ∷ four 1 1 0 0  -- 2: f
+    ∷ four 4 0 0 0  -- 3: null
+    ∷ four 2 1 0 0  -- 4: 1
+    ∷ four 3 3 4 0  -- 5: null - 1
+    ∷ four 36 1 2 5  -- 6: x.f = null - 1
+    ∷ four 5 0 0 0  -- 7: x
+    ∷ four 1 k 0 0  -- 8: the field of index k
+    ∷ four 2 0 32768 0  -- 9: -2147483648
+    ∷ four 2 1 0 0  -- 10: 1
+    ∷ four 3 9 10 0  -- 11: -2147483648 - 1
+    ∷ four 36 7 8 11  -- 12: x.k = -2147483648 - 1
+    ∷ four 5 0 0 0  -- 13: x
+    ∷ four 1 h 0 0  -- 14: the field of index h
+    ∷ four 6 13 14 0  -- 15: x.h
+    ∷ four 35 0 15 0  -- 16: x = x.h
+    ∷ four 38 12 16 0  -- 17: {x.k = -2147483648 - 1; x = x.h}
+    ∷ four 38 6 17 0  -- 18: {x.f = null - 1; {x.k = -2147483648 - 1; x = x.h}}
+    ∷ four 38 0 18 0  -- 19: {malloc(x); {x.f = null - 1; {x.k = -2147483648 - 1; x = x.h}}}
+    ∷ four 32 0 19 0  -- 20: var x; {malloc(x); {x.f = null - 1; {x.k = -2147483648 - 1; x = ..
+    ∷ [])
+    1
+
+-- `var x; {malloc(x); {x.f = null - 1; {x.f = 5; x = x.f}}}`; x is name 0, f is field 1
+abbrev pub mended : List ℕ
+mended =
+    image (7 ∷ [])
+    (four 34 0 0 0  -- 0: malloc(x)
+    ∷ four 5 0 0 0  -- 1: x
+    ∷ four 1 1 0 0  -- 2: f
+    ∷ four 4 0 0 0  -- 3: null
+    ∷ four 2 1 0 0  -- 4: 1
+    ∷ four 3 3 4 0  -- 5: null - 1
+    ∷ four 36 1 2 5  -- 6: x.f = null - 1
+    ∷ four 5 0 0 0  -- 7: x
+    ∷ four 1 1 0 0  -- 8: f
+    ∷ four 2 5 0 0  -- 9: 5
+    ∷ four 36 7 8 9  -- 10: x.f = 5
+    ∷ four 5 0 0 0  -- 11: x
+    ∷ four 1 1 0 0  -- 12: f
+    ∷ four 6 11 12 0  -- 13: x.f
+    ∷ four 35 0 13 0  -- 14: x = x.f
+    ∷ four 38 10 14 0  -- 15: {x.f = 5; x = x.f}
+    ∷ four 38 6 15 0  -- 16: {x.f = null - 1; {x.f = 5; x = x.f}}
+    ∷ four 38 0 16 0  -- 17: {malloc(x); {x.f = null - 1; {x.f = 5; x = x.f}}}
+    ∷ four 32 0 17 0  -- 18: var x; {malloc(x); {x.f = null - 1; {x.f = 5; x = x.f}}}
+    ∷ [])
+    1
+
+-- ---- the entries
+
+unfoldable pub oldEntries : List (List OldTried)
+oldEntries =
+    -- an argument's fault is stored; it is raised at the node that reads it
+    (oldTried argumentFaults (replicate 9 0)
+    (oldShown (shown (2 ∷ 1 ∷ 0 ∷ 3 ∷ []) 1 (frame 0 Empty (Proc 2 (From 0)) ∷ frame 1 (From 0) Nothing ∷ []) []) (storedAt (aCell 1) 1 7 ∷ []))
+    ∷ [])
+    -- a right side's fault is stored, stored again by the right side that reads it, and raised by the assignment
+    ∷ (oldTried fieldFaults (replicate 9 0)
+    (oldShown (shown (2 ∷ 1 ∷ 15 ∷ 4 ∷ []) 1 (frame 0 Empty (Object 0) ∷ []) ((Nothing ∷ Nothing ∷ []) ∷ []))
+    (storedAt (aField 0 2) 1 11 ∷ storedAt (aField 0 1) 1 5 ∷ []))
+    ∷ [])
+    -- with 1,024 frames an argument that faults is room 1, a callee that faults is a fault; with 1,023 the call is made
+    ∷ (oldBegun (oldWithin calling 7 (manyFrames 1023) (0 ∷ [])) (oldShown (shown (3 ∷ 1 ∷ 0 ∷ []) 1 (framesOf 1023) []) [])
+    ∷ oldBegun (oldWithin calleeFaults 4 (manyFrames 1023) (0 ∷ [])) (oldShown (shown (2 ∷ 1 ∷ 2 ∷ 0 ∷ []) 1 (framesOf 1023) []) [])
+    ∷ oldBegun (oldWithin calling 7 (manyFrames 1022) (0 ∷ []))
+    (oldShown (shown (4 ∷ 1 ∷ []) 1 (framesOf 1022 ++ (frame 1 (From 0) Nothing ∷ [])) []) (storedAt (aCell 1023) 1 6 ∷ []))
+    ∷ [])
+    -- a fault stored over a fault is the one that is read; each field has its own
+    ∷ (oldTried (twoFaults 1 1) (replicate 9 0)
+    (oldShown (shown (2 ∷ 2 ∷ 15 ∷ 4 ∷ []) 1 (frame 0 Empty (Object 0) ∷ []) ((Nothing ∷ Null ∷ []) ∷ []))
+    (storedAt (aField 0 1) 2 11 ∷ storedAt (aField 0 1) 1 5 ∷ []))
+    ∷ oldTried (twoFaults 2 1) (replicate 9 0)
+    (oldShown (shown (2 ∷ 1 ∷ 15 ∷ 4 ∷ []) 1 (frame 0 Empty (Object 0) ∷ []) ((Nothing ∷ Nothing ∷ []) ∷ []))
+    (storedAt (aField 0 2) 2 11 ∷ storedAt (aField 0 1) 1 5 ∷ []))
+    ∷ [])
+    -- a value stored over a fault is what is read
+    ∷ (oldTried mended (replicate 9 0)
+    (oldShown (shown (1 ∷ 5 ∷ []) 0 (frame 0 Empty (Int 5) ∷ []) ((Int 5 ∷ []) ∷ [])) (storedAt (aField 0 1) 1 5 ∷ []))
+    ∷ [])
+    ∷ []
+
+-- the same scripts by the rules: each stops at the first of those steps, room or none, with the fault that was stored there
+unfoldable pub nowEntries : List (List Tried)
+nowEntries =
+    (tried argumentFaults (replicate 9 0) (shown (2 ∷ 1 ∷ 7 ∷ 2 ∷ []) 1 (frame 0 Empty (Proc 2 (From 0)) ∷ []) []) ∷ [])
+    ∷ (tried fieldFaults (replicate 9 0) (shown (2 ∷ 1 ∷ 5 ∷ 2 ∷ []) 2 (frame 0 Empty (Object 0) ∷ []) ((Null ∷ Null ∷ []) ∷ [])) ∷ [])
+    ∷ (begun (within (scriptOf calling) 7 (manyFrames 1023) (0 ∷ [])) (shown (2 ∷ 1 ∷ 6 ∷ 0 ∷ []) 1 (framesOf 1023) [])
+    ∷ begun (within (scriptOf calleeFaults) 4 (manyFrames 1023) (0 ∷ [])) (shown (2 ∷ 1 ∷ 2 ∷ 0 ∷ []) 1 (framesOf 1023) [])
+    ∷ begun (within (scriptOf calling) 7 (manyFrames 1022) (0 ∷ [])) (shown (2 ∷ 1 ∷ 6 ∷ 0 ∷ []) 1 (framesOf 1022) [])
+    ∷ [])
+    ∷ []
+
+-- ---- they hold
+
+-- every definition that an old run computes by, besides those of `opens`
+unfoldable old-opens : Unit {0}
+unfolding samePlace newestAt unfaulted raised valueOr oldReads asNow storing oldEval others oldExec noted oldApply oldPlanned oldMachine oldRun valuesOf oldGot oldWant oldWithin
+old-opens = tt
+
+pub old-entries-hold : map (map oldGot) oldEntries ≡ map (map oldWant) oldEntries
+unfolding oldEntries show partsOf opens old-opens
+old-entries-hold =
+    told-so oldGot oldWant oldEntries
+    (refl  -- argument
+    also refl  -- right side
+    also refl  -- 1,024 frames
+    also refl  -- a fault over a fault
+    also refl  -- a value over a fault
+    also all-told)
+
+pub now-entries-hold : map (map got) nowEntries ≡ map (map want) nowEntries
+unfolding nowEntries got want show partsOf within opens
+now-entries-hold =
+    told-so got want nowEntries
+    (refl  -- argument
+    also refl  -- right side
+    also refl  -- 1,024 frames
+    also all-told)
