@@ -17,7 +17,7 @@ use Rattle.rules.specs.Refusals.{check}
 use Rattle.rules.specs.Control.{command}
 use Rattle.rules.specs.Run.{Ran, ran, runFrom}
 use Rattle.cases.proofs.Cases.{Tried, tried, begun, Shown, shown, show, partsOf, got, want}
-use Rattle.cases.proofs.CasesMore.{argumentFaults, fieldFaults}
+use Rattle.cases.proofs.CasesMore.{argumentFaults}
 use Rattle.cases.proofs.CasesLimits.{calling, calleeFaults, framesOf, manyFrames, within}
 use Rattle.oldrules.specs.BeforeOrder2.{Place, aCell, aField, samePlace, StoredFault, OldStore, newestAt, unfaulted, raised, valueOr, oldReads, asNow, storing, oldEval, others, oldExec, noted, oldApply, oldPlanned, oldMachine, oldRun}
 
@@ -49,7 +49,35 @@ oldWant (oldBegun r t) = t
 unfoldable pub oldWithin : List ℕ → ℕ → Store → List ℕ → Ran OldStore
 oldWithin img n s cs = runFrom (oldMachine img) cs 0 (unfaulted s) (some (command n (From 0)))
 
--- ---- further scripts
+-- ---- scripts
+
+-- `var x; {malloc(x); {x.f = null - 1; {x.g = x.f; x = x.g}}}`; x is name 0, f and g are fields 1 and 2
+abbrev pub storedTwice : List ℕ
+storedTwice =
+    image (7 ∷ 12 ∷ [])
+    (four 34 0 0 0  -- 0: malloc(x)
+    ∷ four 5 0 0 0  -- 1: x
+    ∷ four 1 1 0 0  -- 2: f
+    ∷ four 4 0 0 0  -- 3: null
+    ∷ four 2 1 0 0  -- 4: 1
+    ∷ four 3 3 4 0  -- 5: null - 1
+    ∷ four 36 1 2 5  -- 6: x.f = null - 1
+    ∷ four 5 0 0 0  -- 7: x
+    ∷ four 1 2 0 0  -- 8: g
+    ∷ four 5 0 0 0  -- 9: x
+    ∷ four 1 1 0 0  -- 10: f
+    ∷ four 6 9 10 0  -- 11: x.f
+    ∷ four 36 7 8 11  -- 12: x.g = x.f
+    ∷ four 5 0 0 0  -- 13: x
+    ∷ four 1 2 0 0  -- 14: g
+    ∷ four 6 13 14 0  -- 15: x.g
+    ∷ four 35 0 15 0  -- 16: x = x.g
+    ∷ four 38 12 16 0  -- 17: {x.g = x.f; x = x.g}
+    ∷ four 38 6 17 0  -- 18: {x.f = null - 1; {x.g = x.f; x = x.g}}
+    ∷ four 38 0 18 0  -- 19: {malloc(x); {x.f = null - 1; {x.g = x.f; x = x.g}}}
+    ∷ four 32 0 19 0  -- 20: var x; {malloc(x); {x.f = null - 1; {x.g = x.f; x = x.g}}}
+    ∷ [])
+    1
 
 -- `var x; {malloc(x); {x.f = null - 1; {x.k = -2147483648 - 1; x = x.h}}}`, k and h fields by their index;
 -- x is name 0, f is field 1 of two
@@ -115,15 +143,15 @@ oldEntries =
     (oldShown (shown (2 ∷ 1 ∷ 0 ∷ 3 ∷ []) 1 (frame 0 Empty (Proc 2 (From 0)) ∷ frame 1 (From 0) Nothing ∷ []) []) (storedAt (aCell 1) 1 7 ∷ []))
     ∷ [])
     -- a right side's fault is stored, stored again by the right side that reads it, and raised by the assignment
-    ∷ (oldTried fieldFaults (replicate 9 0)
+    ∷ (oldTried storedTwice (replicate 9 0)
     (oldShown (shown (2 ∷ 1 ∷ 15 ∷ 4 ∷ []) 1 (frame 0 Empty (Object 0) ∷ []) ((Nothing ∷ Nothing ∷ []) ∷ []))
     (storedAt (aField 0 2) 1 11 ∷ storedAt (aField 0 1) 1 5 ∷ []))
     ∷ [])
     -- with 1,024 frames an argument that faults is room 1, a callee that faults is a fault; with 1,023 the call is made
-    ∷ (oldBegun (oldWithin calling 7 (manyFrames 1023) (0 ∷ [])) (oldShown (shown (3 ∷ 1 ∷ 0 ∷ []) 1 (framesOf 1023) []) [])
+    ∷ (oldBegun (oldWithin calling 10 (manyFrames 1023) (0 ∷ [])) (oldShown (shown (3 ∷ 1 ∷ 0 ∷ []) 1 (framesOf 1023) []) [])
     ∷ oldBegun (oldWithin calleeFaults 4 (manyFrames 1023) (0 ∷ [])) (oldShown (shown (2 ∷ 1 ∷ 2 ∷ 0 ∷ []) 1 (framesOf 1023) []) [])
-    ∷ oldBegun (oldWithin calling 7 (manyFrames 1022) (0 ∷ []))
-    (oldShown (shown (4 ∷ 1 ∷ []) 1 (framesOf 1022 ++ (frame 1 (From 0) Nothing ∷ [])) []) (storedAt (aCell 1023) 1 6 ∷ []))
+    ∷ oldBegun (oldWithin calling 10 (manyFrames 1022) (0 ∷ []))
+    (oldShown (shown (4 ∷ 1 ∷ []) 1 (framesOf 1022 ++ (frame 1 (From 0) Nothing ∷ [])) []) (storedAt (aCell 1023) 1 9 ∷ []))
     ∷ [])
     -- a fault stored over a fault is the one that is read; each field has its own
     ∷ (oldTried (twoFaults 1 1) (replicate 9 0)
@@ -143,10 +171,10 @@ oldEntries =
 unfoldable pub nowEntries : List (List Tried)
 nowEntries =
     (tried argumentFaults (replicate 9 0) (shown (2 ∷ 1 ∷ 7 ∷ 2 ∷ []) 1 (frame 0 Empty (Proc 2 (From 0)) ∷ []) []) ∷ [])
-    ∷ (tried fieldFaults (replicate 9 0) (shown (2 ∷ 1 ∷ 5 ∷ 2 ∷ []) 2 (frame 0 Empty (Object 0) ∷ []) ((Null ∷ Null ∷ []) ∷ [])) ∷ [])
-    ∷ (begun (within (scriptOf calling) 7 (manyFrames 1023) (0 ∷ [])) (shown (2 ∷ 1 ∷ 6 ∷ 0 ∷ []) 1 (framesOf 1023) [])
+    ∷ (tried storedTwice (replicate 9 0) (shown (2 ∷ 1 ∷ 5 ∷ 2 ∷ []) 2 (frame 0 Empty (Object 0) ∷ []) ((Null ∷ Null ∷ []) ∷ [])) ∷ [])
+    ∷ (begun (within (scriptOf calling) 10 (manyFrames 1023) (0 ∷ [])) (shown (2 ∷ 1 ∷ 9 ∷ 0 ∷ []) 1 (framesOf 1023) [])
     ∷ begun (within (scriptOf calleeFaults) 4 (manyFrames 1023) (0 ∷ [])) (shown (2 ∷ 1 ∷ 2 ∷ 0 ∷ []) 1 (framesOf 1023) [])
-    ∷ begun (within (scriptOf calling) 7 (manyFrames 1022) (0 ∷ [])) (shown (2 ∷ 1 ∷ 6 ∷ 0 ∷ []) 1 (framesOf 1022) [])
+    ∷ begun (within (scriptOf calling) 10 (manyFrames 1022) (0 ∷ [])) (shown (2 ∷ 1 ∷ 9 ∷ 0 ∷ []) 1 (framesOf 1022) [])
     ∷ [])
     ∷ []
 
