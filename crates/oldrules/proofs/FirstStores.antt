@@ -42,7 +42,7 @@ module _ {S E : Type 0} (m : Machine S E) where
     pub goes-to : step m s t i ≡ goesTo store control
     pub then : Reaches m s′ o′ cs store control
 
-  goes-first : (s′ : S) (o′ : Option Control) (i : ℕ) (cs : List ℕ) (s : S) (t : Control)
+  pub goes-first : (s′ : S) (o′ : Option Control) (i : ℕ) (cs : List ℕ) (s : S) (t : Control)
       → Reaches m s′ o′ (i ∷ cs) s (some t)
       → GoesFirst s′ o′ i cs s t
   goes-first s′ o′ _ _ _ _ (goes {s₁ = s₁} {o = o} e r) = record { store = s₁; control = o; goes-to = e; then = r }

@@ -3,3 +3,4 @@ pub mod EqualSteps
 pub mod FirstStores
 pub mod EqualRuns
 pub mod OldCases
+pub mod Firsts

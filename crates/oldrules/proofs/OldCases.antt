@@ -181,7 +181,7 @@ nowEntries =
 -- ---- they hold
 
 -- every definition that an old run computes by, besides those of `opens`
-unfoldable old-opens : Unit {0}
+unfoldable pub old-opens : Unit {0}
 unfolding samePlace newestAt unfaulted raised valueOr oldReads asNow storing oldEval others oldExec noted oldApply oldPlanned oldMachine oldRun valuesOf oldGot oldWant oldWithin
 old-opens = tt
 
