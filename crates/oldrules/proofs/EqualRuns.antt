@@ -141,6 +141,11 @@ as-old : (r : Ran Store) (q : Ran OldStore) → q ≡ asRan r → SameRun q r
 unfolding asRan ran unfaulted
 as-old r q e = rw e (record { end = refl; steps = refl; frames = refl; objects = refl; control = refl; no-fault = refl })
 
+-- and nothing is left out of it
+pub same-in-all : (r : Ran Store) (q : Ran OldStore) → SameRun q r → q ≡ asRan r
+unfolding asRan ran unfaulted
+same-in-all r q x = rw (sym (x .end), sym (x .steps), sym (x .frames), sym (x .objects), sym (x .control), sym (x .no-fault))
+
 module _ (words : ℕ) (img : List ℕ) (are-bytes : Bytes img) (accepted : check [] words img ≡ Accepted) (cs : List ℕ) where
   both-runs : Compares img cs
   both-runs = compares img cs (accepted-fits [] words img are-bytes accepted)
@@ -185,3 +190,12 @@ module _ (words : ℕ) (img : List ℕ) (are-bytes : Bytes img) (accepted : chec
       go : Compares img cs → StoresNone img cs ⊎ ((before : List ℕ) × (o : OldStore) × (t : Control) × (k : ℕ) × (n : ℕ) × FirstStored img cs before o t k n)
       go (equal e h) = inl h
       go (first-stops before s t k n x e) = inr (before, unfaulted s, t, k, n, x)
+
+  -- So a run that doesn't end with a fault is as it was.
+  pub without-fault-equal : ((k n : ℕ) → runScript img cs .end ≡ Stopped (Faulted k n) → ⊥) → SameRun (oldRun img cs) (runScript img cs)
+  unfolding ran
+  without-fault-equal no-fault = go both-runs
+    where
+      go : Compares img cs → SameRun (oldRun img cs) (runScript img cs)
+      go (equal e h) = as-old (runScript img cs) (oldRun img cs) e
+      go (first-stops before s t k n x e) = absurd (no-fault k n (ap (λ (r : Ran Store). r .end) e))
