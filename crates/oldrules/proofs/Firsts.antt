@@ -22,12 +22,12 @@ use Rattle.rules.proofs.Opens.{opens}
 use Rattle.safety.specs.Reaches.{Reaches, stays, goes}
 use Rattle.safety.proofs.ReachesStep.{Goes, goes-only}
 use Rattle.safety.proofs.Reaches.{Between, reach-split, reach-same}
-use Rattle.cases.proofs.CasesMore.{argumentFaults, fieldFaults}
+use Rattle.cases.proofs.CasesMore.{argumentFaults}
 use Rattle.cases.proofs.CasesLimits.{calling, manyFrames}
 use Rattle.oldrules.specs.BeforeOrder2.{aCell, aField, StoredFault, OldStore, unfaulted, oldDeed, OldEffect, noted, oldApply, oldPlanned, oldMachine, oldBare}
 use Rattle.oldrules.specs.Compared.{StoresFault, OldStep, FirstStored}
 use Rattle.oldrules.proofs.FirstStores.{GoesFirst, goes-first}
-use Rattle.oldrules.proofs.OldCases.{old-opens}
+use Rattle.oldrules.proofs.OldCases.{storedTwice, old-opens}
 
 -- ---- stored faults stay
 
@@ -142,16 +142,16 @@ argument-first =
     (record { node = 8; chain = From 0; chosen = refl; does = _; place = aCell 1; stores = refl })
 
 -- `x.f = null - 1`, the third step, stores fault 1 of node 5
-pub right-side-first : FirstStored fieldFaults (replicate 9 0) (0 ∷ 0 ∷ [])
+pub right-side-first : FirstStored storedTwice (replicate 9 0) (0 ∷ 0 ∷ [])
     (unfaulted (record { frames = frame 0 Empty (Object 0) ∷ []; objects = object (Null ∷ Null ∷ []) ∷ [] }))
     (followed (command 6 (From 0)) 17 (From 0)) 1 5
 unfolding opens old-opens
 right-side-first =
-    first-if fieldFaults (replicate 9 0) (0 ∷ 0 ∷ []) _ _ 0 1 5
+    first-if storedTwice (replicate 9 0) (0 ∷ 0 ∷ []) _ _ 0 1 5
     (record { fits = leb-true _ _ refl; rest = replicate 6 0; is = refl; reached = goes refl (goes refl stays) })
     (record { node = 6; chain = From 0; chosen = refl; does = _; place = aField 0 1; stores = refl })
 
--- taken or not: with 1,024 frames `p(null - 1)` was room 1 (OldCases), and would have stored fault 1 of node 6
-pub not-taken-stores : StoresFault calling (unfaulted (manyFrames 1023)) (command 7 (From 0)) 0 1 6
+-- taken or not: with 1,024 frames `p(null - 1)` was room 1 (OldCases), and would have stored fault 1 of node 9
+pub not-taken-stores : StoresFault calling (unfaulted (manyFrames 1023)) (command 10 (From 0)) 0 1 9
 unfolding opens old-opens
-not-taken-stores = record { node = 7; chain = From 0; chosen = refl; does = _; place = aCell 1024; stores = refl }
+not-taken-stores = record { node = 10; chain = From 0; chosen = refl; does = _; place = aCell 1024; stores = refl }

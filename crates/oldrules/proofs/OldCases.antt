@@ -18,7 +18,7 @@ use Rattle.rules.specs.Control.{command}
 use Rattle.rules.specs.Run.{Ran, ran, runFrom}
 use Rattle.cases.proofs.Cases.{Tried, tried, begun, Shown, shown, show, partsOf, got, want}
 use Rattle.cases.proofs.CasesMore.{argumentFaults}
-use Rattle.cases.proofs.CasesLimits.{calling, calleeFaults, framesOf, manyFrames, within}
+use Rattle.cases.proofs.CasesLimits.{calling, calleeFaults, framesOf, manyFrames, oneFrame, oneObject, within}
 use Rattle.oldrules.specs.BeforeOrder2.{Place, aCell, aField, samePlace, StoredFault, OldStore, newestAt, unfaulted, raised, valueOr, oldReads, asNow, storing, oldEval, others, oldExec, noted, oldApply, oldPlanned, oldMachine, oldRun}
 
 -- ---- what is told of an old run: as of a run, `Nothing` where a fault is stored; and the stored faults, newest first
@@ -153,6 +153,18 @@ oldEntries =
     ∷ oldBegun (oldWithin calling 10 (manyFrames 1022) (0 ∷ []))
     (oldShown (shown (4 ∷ 1 ∷ []) 1 (framesOf 1022 ++ (frame 1 (From 0) Nothing ∷ [])) []) (storedAt (aCell 1023) 1 9 ∷ []))
     ∷ [])
+    -- no rule has a cell that holds nothing, a procedure or an object that isn't there, though the argument or the right side faults
+    ∷ (oldBegun (oldWithin calling 10 (oneFrame 0 Nothing) (0 ∷ [])) (oldShown (shown (0 ∷ 0 ∷ []) 1 (frame 0 Empty Nothing ∷ []) []) [])
+    ∷ oldBegun (oldWithin calling 10 (oneFrame 0 (Proc 0 Empty)) (0 ∷ []))
+    (oldShown (shown (0 ∷ 0 ∷ []) 1 (frame 0 Empty (Proc 0 Empty) ∷ []) []) [])
+    ∷ oldBegun (oldWithin storedTwice 6 (oneFrame 0 (Object 0)) (0 ∷ []))
+    (oldShown (shown (0 ∷ 0 ∷ []) 1 (frame 0 Empty (Object 0) ∷ []) []) [])
+    ∷ [])
+    -- nor a field that the object has not; one that it has takes the fault
+    ∷ (oldBegun (oldWithin storedTwice 12 (oneObject (Null ∷ [])) (0 ∷ [])) (oldShown (shown (0 ∷ 0 ∷ []) 1 (frame 0 Empty (Object 0) ∷ []) ((Null ∷ []) ∷ [])) [])
+    ∷ oldBegun (oldWithin storedTwice 6 (oneObject (Null ∷ [])) (0 ∷ []))
+    (oldShown (shown (1 ∷ 1 ∷ []) 0 (frame 0 Empty (Object 0) ∷ []) ((Nothing ∷ []) ∷ [])) (storedAt (aField 0 1) 1 5 ∷ []))
+    ∷ [])
     -- a fault stored over a fault is the one that is read; each field has its own
     ∷ (oldTried (twoFaults 1 1) (replicate 9 0)
     (oldShown (shown (2 ∷ 2 ∷ 15 ∷ 4 ∷ []) 1 (frame 0 Empty (Object 0) ∷ []) ((Nothing ∷ Null ∷ []) ∷ []))
@@ -192,6 +204,8 @@ old-entries-hold =
     (refl  -- argument
     also refl  -- right side
     also refl  -- 1,024 frames
+    also refl  -- nothing
+    also refl  -- no such field
     also refl  -- a fault over a fault
     also refl  -- a value over a fault
     also all-told)
