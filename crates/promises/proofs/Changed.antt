@@ -35,3 +35,7 @@ module _ (words : ℕ) (img : List ℕ) (are-bytes : Bytes img) (is-accepted : c
   pub none-or-first : StoresNone img choices
       ⊎ ((before : List ℕ) × (o : OldStore) × (t : Control) × (k : ℕ) × (n : ℕ) × FirstStored img choices before o t k n)
   none-or-first = EqualRuns.none-or-first words img are-bytes is-accepted choices
+
+  -- so a run that ends without a fault is as it was
+  pub without-fault-equal : ((k n : ℕ) → runScript img choices .end ≡ Stopped (Faulted k n) → ⊥) → SameRun (oldRun img choices) (runScript img choices)
+  without-fault-equal = EqualRuns.without-fault-equal words img are-bytes is-accepted choices
