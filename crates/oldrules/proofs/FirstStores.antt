@@ -94,7 +94,7 @@ module _ (img : List ℕ) where
       (record { rest = x .rest; is = cc; reached = g .then }) (omega arith) k n stored
 
   -- the first step that stores a fault, number k, which arose at node n
-  pub record Stores (cs before : List ℕ) (s′ : Store) (t : Control) (k n : ℕ) (s : Store) (o : Option Control) : Type 0 where
+  pub record FirstAt (cs before : List ℕ) (s′ : Store) (t : Control) (k n : ℕ) (s : Store) (o : Option Control) : Type 0 where
     pub choice : ℕ
     pub next : NextAt (oldMachine img) cs before (unfaulted s′) t choice (unfaulted s) o
     pub stored : StoresFault img (unfaulted s′) t choice k n
@@ -106,7 +106,7 @@ module _ (img : List ℕ) where
         → NoneBefore (length cs) cs (unfaulted s) o
         → RunCompares cs c s o
     stops-there : (before : List ℕ) (s′ : Store) (t : Control) (k n : ℕ)
-        → Stores cs before s′ t k n s o
+        → FirstAt cs before s′ t k n s o
         → runFrom (machine img) cs c s o ≡ ran (Stopped (Faulted k n)) (c + length before) s′ (some t)
         → RunCompares cs c s o
 

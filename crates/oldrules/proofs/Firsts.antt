@@ -27,7 +27,8 @@ use Rattle.cases.proofs.CasesLimits.{calling, manyFrames}
 use Rattle.oldrules.specs.BeforeOrder2.{aCell, aField, StoredFault, OldStore, unfaulted, oldDeed, OldEffect, noted, oldApply, oldPlanned, oldMachine, oldBare}
 use Rattle.oldrules.specs.Compared.{StoresFault, OldStep, FirstStored}
 use Rattle.oldrules.proofs.FirstStores.{GoesFirst, goes-first}
-use Rattle.oldrules.proofs.OldCases.{storedTwice, old-opens}
+use Rattle.oldrules.proofs.OldCases.{old-opens}
+use Rattle.oldrules.proofs.OldScripts.{storedTwice}
 
 -- ---- stored faults stay
 

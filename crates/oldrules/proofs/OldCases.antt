@@ -1,12 +1,11 @@
--- Worked cases of the rules before order 2: what was proved of them while they were the rules, that of stored faults. So the
+-- Worked cases of the rules before order 2: those of stored faults that were proved while they were the rules (an argument's, a
+-- right side's, with frames used up, where nothing is there), and others, computed by hand from document 01's words. So the
 -- comparison (EqualRuns) is with those rules. Then the same scripts by the rules, as order 2 has them. Assumes nothing.
 use Prim.Native.Nat.{ℕ}
 use mathlib.Core.Path.{_≡_, refl}
 use mathlib.Core.Option.{some}
 use mathlib.Core.List.{List, [], _∷_, _++_, map}
 use lib.ListN.{replicate}
-use Rattle.rules.specs.Published.{image}
-use Rattle.rules.proofs.Writing.{four}
 use Rattle.rules.proofs.Opens.{opens, told-so, all-told, _also_}
 use Rattle.rules.specs.declared.Chain.the-variants.{Empty, From}
 use Rattle.rules.specs.declared.Value.the-variants.{Nothing, Null, Int, Object, Proc}
@@ -19,6 +18,7 @@ use Rattle.rules.specs.Run.{Ran, ran, runFrom}
 use Rattle.cases.proofs.Cases.{Tried, tried, begun, Shown, shown, show, partsOf, got, want}
 use Rattle.cases.proofs.CasesMore.{argumentFaults}
 use Rattle.cases.proofs.CasesLimits.{calling, calleeFaults, framesOf, manyFrames, oneFrame, oneObject, within}
+use Rattle.oldrules.proofs.OldScripts.{storedTwice, twoFaults, mended, twoArguments, mendedCell, cellAndField, twoObjects}
 use Rattle.oldrules.specs.BeforeOrder2.{Place, aCell, aField, samePlace, StoredFault, OldStore, newestAt, unfaulted, raised, valueOr, oldReads, asNow, storing, oldEval, others, oldExec, noted, oldApply, oldPlanned, oldMachine, oldRun}
 
 -- ---- what is told of an old run: as of a run, `Nothing` where a fault is stored; and the stored faults, newest first
@@ -48,91 +48,6 @@ oldWant (oldBegun r t) = t
 -- at the command of a node, in the chain of frame 0, with this store and no fault stored
 unfoldable pub oldWithin : List ℕ → ℕ → Store → List ℕ → Ran OldStore
 oldWithin img n s cs = runFrom (oldMachine img) cs 0 (unfaulted s) (some (command n (From 0)))
-
--- ---- scripts
-
--- `var x; {malloc(x); {x.f = null - 1; {x.g = x.f; x = x.g}}}`; x is name 0, f and g are fields 1 and 2
-abbrev pub storedTwice : List ℕ
-storedTwice =
-    image (7 ∷ 12 ∷ [])
-    (four 34 0 0 0  -- 0: malloc(x)
-    ∷ four 5 0 0 0  -- 1: x
-    ∷ four 1 1 0 0  -- 2: f
-    ∷ four 4 0 0 0  -- 3: null
-    ∷ four 2 1 0 0  -- 4: 1
-    ∷ four 3 3 4 0  -- 5: null - 1
-    ∷ four 36 1 2 5  -- 6: x.f = null - 1
-    ∷ four 5 0 0 0  -- 7: x
-    ∷ four 1 2 0 0  -- 8: g
-    ∷ four 5 0 0 0  -- 9: x
-    ∷ four 1 1 0 0  -- 10: f
-    ∷ four 6 9 10 0  -- 11: x.f
-    ∷ four 36 7 8 11  -- 12: x.g = x.f
-    ∷ four 5 0 0 0  -- 13: x
-    ∷ four 1 2 0 0  -- 14: g
-    ∷ four 6 13 14 0  -- 15: x.g
-    ∷ four 35 0 15 0  -- 16: x = x.g
-    ∷ four 38 12 16 0  -- 17: {x.g = x.f; x = x.g}
-    ∷ four 38 6 17 0  -- 18: {x.f = null - 1; {x.g = x.f; x = x.g}}
-    ∷ four 38 0 18 0  -- 19: {malloc(x); {x.f = null - 1; {x.g = x.f; x = x.g}}}
-    ∷ four 32 0 19 0  -- 20: var x; {malloc(x); {x.f = null - 1; {x.g = x.f; x = x.g}}}
-    ∷ [])
-    1
-
--- `var x; {malloc(x); {x.f = null - 1; {x.k = -2147483648 - 1; x = x.h}}}`, k and h fields by their index;
--- x is name 0, f is field 1 of two
-abbrev pub twoFaults : ℕ → ℕ → List ℕ
-twoFaults k h =
-    image (7 ∷ 12 ∷ [])
-    (four 34 0 0 0  -- 0: malloc(x)
-    ∷ four 5 0 0 0  -- 1: x
-    ∷ four 1 1 0 0  -- 2: f
-    ∷ four 4 0 0 0  -- 3: null
-    ∷ four 2 1 0 0  -- 4: 1
-    ∷ four 3 3 4 0  -- 5: null - 1
-    ∷ four 36 1 2 5  -- 6: x.f = null - 1
-    ∷ four 5 0 0 0  -- 7: x
-    ∷ four 1 k 0 0  -- 8: the field of index k
-    ∷ four 2 0 32768 0  -- 9: -2147483648
-    ∷ four 2 1 0 0  -- 10: 1
-    ∷ four 3 9 10 0  -- 11: -2147483648 - 1
-    ∷ four 36 7 8 11  -- 12: x.k = -2147483648 - 1
-    ∷ four 5 0 0 0  -- 13: x
-    ∷ four 1 h 0 0  -- 14: the field of index h
-    ∷ four 6 13 14 0  -- 15: x.h
-    ∷ four 35 0 15 0  -- 16: x = x.h
-    ∷ four 38 12 16 0  -- 17: {x.k = -2147483648 - 1; x = x.h}
-    ∷ four 38 6 17 0  -- 18: {x.f = null - 1; {x.k = -2147483648 - 1; x = x.h}}
-    ∷ four 38 0 18 0  -- 19: {malloc(x); {x.f = null - 1; {x.k = -2147483648 - 1; x = x.h}}}
-    ∷ four 32 0 19 0  -- 20: var x; {malloc(x); {x.f = null - 1; {x.k = -2147483648 - 1; x = ..
-    ∷ [])
-    1
-
--- `var x; {malloc(x); {x.f = null - 1; {x.f = 5; x = x.f}}}`; x is name 0, f is field 1
-abbrev pub mended : List ℕ
-mended =
-    image (7 ∷ [])
-    (four 34 0 0 0  -- 0: malloc(x)
-    ∷ four 5 0 0 0  -- 1: x
-    ∷ four 1 1 0 0  -- 2: f
-    ∷ four 4 0 0 0  -- 3: null
-    ∷ four 2 1 0 0  -- 4: 1
-    ∷ four 3 3 4 0  -- 5: null - 1
-    ∷ four 36 1 2 5  -- 6: x.f = null - 1
-    ∷ four 5 0 0 0  -- 7: x
-    ∷ four 1 1 0 0  -- 8: f
-    ∷ four 2 5 0 0  -- 9: 5
-    ∷ four 36 7 8 9  -- 10: x.f = 5
-    ∷ four 5 0 0 0  -- 11: x
-    ∷ four 1 1 0 0  -- 12: f
-    ∷ four 6 11 12 0  -- 13: x.f
-    ∷ four 35 0 13 0  -- 14: x = x.f
-    ∷ four 38 10 14 0  -- 15: {x.f = 5; x = x.f}
-    ∷ four 38 6 15 0  -- 16: {x.f = null - 1; {x.f = 5; x = x.f}}
-    ∷ four 38 0 16 0  -- 17: {malloc(x); {x.f = null - 1; {x.f = 5; x = x.f}}}
-    ∷ four 32 0 17 0  -- 18: var x; {malloc(x); {x.f = null - 1; {x.f = 5; x = x.f}}}
-    ∷ [])
-    1
 
 -- ---- the entries
 
@@ -177,6 +92,22 @@ oldEntries =
     ∷ (oldTried mended (replicate 9 0)
     (oldShown (shown (1 ∷ 5 ∷ []) 0 (frame 0 Empty (Int 5) ∷ []) ((Int 5 ∷ []) ∷ [])) (storedAt (aField 0 1) 1 5 ∷ []))
     ∷ [])
+    -- each cell holds its own fault, a value over it is what is read, and a cell is no field
+    ∷ (oldTried (twoArguments 1) (replicate 9 0)
+    (oldShown (shown (2 ∷ 1 ∷ 0 ∷ 3 ∷ []) 1 (frame 0 Empty Null ∷ frame 1 (From 0) Nothing ∷ frame 2 (From 1) Nothing ∷ []) [])
+    (storedAt (aCell 2) 2 5 ∷ storedAt (aCell 1) 1 10 ∷ []))
+    ∷ oldTried (twoArguments 2) (replicate 9 0)
+    (oldShown (shown (2 ∷ 2 ∷ 0 ∷ 3 ∷ []) 1 (frame 0 Empty Null ∷ frame 1 (From 0) Nothing ∷ frame 2 (From 1) Nothing ∷ []) [])
+    (storedAt (aCell 2) 2 5 ∷ storedAt (aCell 1) 1 10 ∷ []))
+    ∷ oldTried mendedCell (replicate 9 0)
+    (oldShown (shown (1 ∷ 4 ∷ []) 0 (frame 0 Empty (Int 5) ∷ frame 1 (From 0) (Int 5) ∷ []) []) (storedAt (aCell 1) 1 8 ∷ []))
+    ∷ oldTried cellAndField (replicate 9 0)
+    (oldShown (shown (2 ∷ 1 ∷ 7 ∷ 4 ∷ []) 1 (frame 0 Empty Nothing ∷ frame 1 (From 0) (Object 0) ∷ []) ((Nothing ∷ []) ∷ []))
+    (storedAt (aField 0 1) 2 5 ∷ storedAt (aCell 0) 1 15 ∷ []))
+    ∷ oldTried twoObjects (replicate 9 0)
+    (oldShown (shown (2 ∷ 1 ∷ 16 ∷ 6 ∷ []) 1 (frame 0 Empty (Object 0) ∷ frame 1 (From 0) (Object 1) ∷ []) ((Nothing ∷ []) ∷ (Nothing ∷ []) ∷ []))
+    (storedAt (aField 1 1) 2 12 ∷ storedAt (aField 0 1) 1 5 ∷ []))
+    ∷ [])
     ∷ []
 
 -- the same scripts by the rules: each stops at the first of those steps, room or none, with the fault that was stored there
@@ -208,6 +139,7 @@ old-entries-hold =
     also refl  -- no such field
     also refl  -- a fault over a fault
     also refl  -- a value over a fault
+    also refl  -- cells and objects apart
     also all-told)
 
 pub now-entries-hold : map (map got) nowEntries ≡ map (map want) nowEntries

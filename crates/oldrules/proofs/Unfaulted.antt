@@ -18,7 +18,7 @@ use Rattle.rules.specs.declared.Next.the-variants.{Ended}
 use Rattle.rules.specs.State.{Store, AnObject, fieldOf, nextFrame, HasObject}
 use Rattle.rules.specs.Script.{Script, formal}
 use Rattle.rules.specs.Eval.{faultNo, noObject, noField, noProcedure, Res, ok, fault, stuck, _>>=_, there, Closure, closure, asObject, asField, asProc, reading, plainly, eval}
-use Rattle.rules.specs.Step.{Deed, deed, enter, calling, putting, execBy, exec}
+use Rattle.rules.specs.Step.{Deed, deed, enter, calling, intoField, execBy, exec}
 use Rattle.rules.proofs.StoreLaws.{object-there}
 use Rattle.safety.specs.Safe.{FitExp, FitCmd, Bears, IsProc, Real, RealObject, RealStore}
 use Rattle.safety.specs.Fits.{Fine}
@@ -82,8 +82,8 @@ module _ (sc : Script) (s : Store) where
   field-there x (suc i) r m = entry-there (x .values) i (omega (arith, r .long, m .1))
 
   module _ (good : RealStore sc s) where
-    puts : (o f : ℕ) → HasObject s o → (1 ≤ f) × (f ≤ sc .fields) → (d : Deed) × (putting sc s o f Nothing ≡ ok d)
-    unfolding putting _>>=_ there
+    puts : (o f : ℕ) → HasObject s o → (1 ≤ f) × (f ≤ sc .fields) → (d : Deed) × (intoField s o f Nothing ≡ ok d)
+    unfolding intoField _>>=_ there
     puts o f l m =
         let x = object-there s o l in
         let y = field-there (x .0) f (good .objects o (x .0) (x .1)) m in
@@ -110,7 +110,7 @@ module _ (sc : Script) (s : Store) where
           same-bind sc (Real sc s) (eval s ch b) _ _ (fine-exp b (h .2)) λ w q.
           same-bind sc (λ o. HasObject s o) (asObject (faultNo noObject) n v) _ _ (fine-object sc s (IsProc sc s) noObject n (h .0 .0) v r) λ o l.
           same-bind sc (λ f. (1 ≤ f) × (f ≤ sc .fields)) (asField (faultNo noField) n w) _ _ (fine-field sc s (IsProc sc s) noField n (h .0 .0) w q) λ f m.
-          same-storing (aField o f) (eval s ch c) (putting sc s o f) (puts o f l m))
+          same-storing (aField o f) (eval s ch c) (intoField s o f) (puts o f l m))
       same-or-stores (skip n) h = same (old-others sc s ch (skip n))
       same-or-stores (seq n a b) h = same (old-others sc s ch (seq n a b))
       same-or-stores (while n t c) h = same (old-others sc s ch (while n t c))

@@ -17,7 +17,7 @@ use Rattle.rules.specs.declared.Effect.{Effect}
 use Rattle.rules.specs.declared.Stop.the-variants.{Faulted, NoRule}
 use Rattle.rules.specs.State.{Store, empty, nextFrame}
 use Rattle.rules.specs.Eval.{faultNo, noObject, noField, noProcedure, Res, ok, fault, stuck, _>>=_, asObject, asField, asProc, reading, Reads, evalBy}
-use Rattle.rules.specs.Step.{Deed, deed, calling, putting, execBy, apply, shortOf, withRoom, Plan, refuses, Machine}
+use Rattle.rules.specs.Step.{Deed, deed, calling, intoField, execBy, apply, shortOf, withRoom, Plan, refuses, Machine}
 use Rattle.rules.specs.Run.{Start, Ran, run}
 
 -- ---- the store, with faults in it
@@ -106,7 +106,7 @@ module _ (sc : Script) where
     w ← oldEval o ch b
     q ← asObject (faultNo noObject) n v
     f ← asField (faultNo noField) n w
-    storing (aField q f) (oldEval o ch c) (putting sc (o .values) q f)
+    storing (aField q f) (oldEval o ch c) (intoField (o .values) q f)
   oldExec o ch (noCmd n) = others o ch (noCmd n)
   oldExec o ch (var n x c) = others o ch (var n x c)
   oldExec o ch (malloc n x) = others o ch (malloc n x)

@@ -13,10 +13,10 @@ use Rattle.rules.specs.declared.Next.the-variants.{Ended, GoesOn, Repeats, Ente
 use Rattle.rules.specs.declared.Effect.the-variants.{Keep}
 use Rattle.rules.specs.State.{Store}
 use Rattle.rules.specs.Script.{Script, Procedure, formal}
-use Rattle.rules.specs.Eval.{Res, ok, fault, stuck, _>>=_, Closure, closure, eval}
+use Rattle.rules.specs.Eval.{Res, ok, fault, stuck, _>>=_, Closure, closure}
 use Rattle.rules.specs.Control.{Control, move, movable, goesTo}
 use Rattle.safety.specs.Safe.{Nested}
-use Rattle.rules.specs.Step.{does, step, Deed, deed, enter, calling, putting, execBy, exec, miniOO}
+use Rattle.rules.specs.Step.{does, step, Deed, deed, enter, calling, intoField, execBy, exec, miniOO}
 use Rattle.safety.specs.Atoms.{Sealed, AtomMoves}
 use Rattle.safety.proofs.Plans.{RuleDoes}
 use Rattle.safety.proofs.ReachesStep.{Goes, goes-only}
@@ -62,7 +62,7 @@ DoesAs ch c (deed e x) = EntersAs ch c x
 
 module _ (sc : Script) where
   exec-enters : (s : Store) (ch : Chain) (c : Cmd) → Gives (DoesAs ch c) (exec sc s ch c)
-  unfolding execBy calling putting enter
+  unfolding execBy calling intoField enter
   exec-enters s ch (noCmd n) = tt
   exec-enters s ch (var n x c) = tt
   exec-enters s ch (call n a b) =

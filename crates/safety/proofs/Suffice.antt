@@ -13,9 +13,9 @@ use Rattle.rules.specs.declared.Chain.{Chain}
 use Rattle.rules.specs.declared.Value.{Value}
 use Rattle.rules.specs.State.{Store, find, fieldOf, objectAt, HasFrame, HasObject}
 use Rattle.rules.specs.Script.{Script}
-use Rattle.rules.specs.Eval.{faultNo, noObject, noField, noProcedure, Res, stuck, there, Closure, closure, asObject, asField, asProc, eval, test}
+use Rattle.rules.specs.Eval.{faultNo, noObject, noField, noProcedure, stuck, there, Closure, closure, asObject, asField, asProc, eval, test}
 use Rattle.rules.specs.Control.{opened, move, movable}
-use Rattle.rules.specs.Step.{calling, putting, execBy, exec}
+use Rattle.rules.specs.Step.{calling, intoField, execBy, exec}
 use Rattle.safety.specs.Safe.{FitExp, FitTest, FitCmd, single, RealIf, RealObject, RealStore}
 use Rattle.safety.specs.Fits.{Fine}
 use Rattle.safety.specs.Found.{Borne}
@@ -39,9 +39,9 @@ module _ (sc : Script) (s : Store) (good : RealStore sc s) (visible : Names) (ch
   unfolding calling
   fine-calling v (closure m dh) p = fine-bind sc Any Any (there (sc .procAt m)) _ (fine-there sc Any _ (p .0) (p .1) tt) λ q _. tt
 
-  fine-putting : (o f : ℕ) (u : Value) → HasObject s o → (1 ≤ f) × (f ≤ sc .fields) → Fine sc Any (putting sc s o f u)
-  unfolding putting
-  fine-putting o f u l m =
+  fine-into-field : (o f : ℕ) (u : Value) → HasObject s o → (1 ≤ f) × (f ≤ sc .fields) → Fine sc Any (intoField s o f u)
+  unfolding intoField
+  fine-into-field o f u l m =
       fine-bind sc (RealObject sc s) Any (there (objectAt s o)) _ (fine-object-at sc s good o l) λ obj fits.
       fine-bind sc Held Any (there (fieldOf obj f)) _ (fine-field-of sc s (Stated sc) (λ n dh p. (_, p .is)) obj f fits m) λ old _. tt
 
@@ -66,7 +66,7 @@ module _ (sc : Script) (s : Store) (good : RealStore sc s) (visible : Names) (ch
       fine-bind sc (λ o. HasObject s o) Any (asObject (faultNo noObject) n v) _ (fine-object sc s (Stated sc) noObject n (h .0 .0) v p) λ o l.
       fine-bind sc (λ f. (1 ≤ f) × (f ≤ sc .fields)) Any (asField (faultNo noField) n w) _ (fine-field sc s (Stated sc) noField n (h .0 .0) w q) λ f m.
       fine-bind sc Held Any (eval s ch c) _ (fine-exp c (h .3) (second s ch (λ x. needsExp a x || needsExp e x) (needsExp c) b)) λ u _.
-      fine-putting o f u l m
+      fine-into-field o f u l m
   fine-single (skip n) t h b = tt
   fine-single (seq n a c) t h b = absurd t
   fine-single (while n e c) t h b = fine-bind sc Any Any (test sc s ch e) _ (fine-cond e (h .1) b) λ z _. tt
