@@ -7,7 +7,7 @@ use native.Mathlib.Omega.{arith}
 use Rattle.writer.specs.declared.Text.{Text}
 use Rattle.writer.specs.declared.Text.the-variants.{Bytes, Refused}
 use Rattle.writer.proofs.Determined.{answers-one}
-use Rattle.capi.specs.Images.{Spelt, speltOf, TellsText}
+use Rattle.told.specs.Images.{Spelt, speltOf, TellsText}
 
 pub write-answers
     : (speltOf (Bytes 12) ∷ speltOf (Refused 33) ∷ [])

@@ -6,7 +6,7 @@ use mathlib.Core.List.{List}
 use Rattle.writer.specs.declared.Text.{Text}
 use Rattle.writer.specs.declared.Text.the-variants.{Bytes, Refused}
 use Rattle.writer.specs.Answer.{Answers}
-pub use Rattle.capi.specs.declared.images.Spelt.{Spelt}
+pub use Rattle.told.specs.declared.Spelt.{Spelt}
 
 unfoldable pub speltOf : Text → Spelt
 speltOf (Bytes n) = record { verdict = 1; number = 0; length = n }

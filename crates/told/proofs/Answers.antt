@@ -10,7 +10,7 @@ use Rattle.rules.specs.declared.Stop.the-variants.{Faulted, Full, OutOfRange, N
 use Rattle.rules.specs.declared.End.the-variants.{Done, UsedUp, Stopped}
 use Rattle.rules.specs.declared.Answer.the-variants.{Refusal, Ending}
 use Rattle.rules.specs.Numbers.{stopNo, stopValues, endNo, endValues, verdictNumbers}
-use Rattle.capi.specs.Told.{nowhere, numberIn, placeIn, verdictNo, checkedOf, toldOf}
+use Rattle.told.specs.Told.{nowhere, numberIn, placeIn, verdictNo, checkedOf, toldOf}
 
 pub checked-answers
     : (checkedOf Accepted ∷ checkedOf (Refused 4 0) ∷ checkedOf (Refused 9 17) ∷ [])

@@ -12,7 +12,7 @@ use Rattle.reading.proofs.Answered.{one-image, image-or-refusal}
 use Rattle.reader.specs.declared.Reading.{Reading}
 use Rattle.reader.specs.declared.Reading.the-variants.{Image, Refused}
 use Rattle.reader.specs.Says.{Accepts, Denies, ReadSays, wordsAfter}
-use Rattle.capi.specs.Written.{Written, writtenOf, TellsReading, largest, wordsAsked}
+use Rattle.told.specs.Written.{Written, writtenOf, TellsReading, largest, wordsAsked}
 
 -- ---- the answers
 

@@ -10,7 +10,7 @@ use Rattle.grammar.specs.Reads.{wordsFor}
 use Rattle.reader.specs.declared.Reading.{Reading}
 use Rattle.reader.specs.declared.Reading.the-variants.{Image, Refused}
 use Rattle.reader.specs.Says.{ReadSays}
-pub use Rattle.capi.specs.declared.written.Written.{Written}
+pub use Rattle.told.specs.declared.Written.{Written}
 
 unfoldable pub writtenOf : Reading → Written
 writtenOf (Image n) = record { verdict = 1; number = 0; line = 0; length = n }

@@ -10,8 +10,8 @@ use Rattle.rules.specs.declared.Verdict.the-variants.{Accepted, Refused}
 use Rattle.rules.specs.declared.Answer.{Answer}
 use Rattle.rules.specs.declared.Answer.the-variants.{Refusal, Ending}
 use Rattle.rules.specs.Numbers.{endNo, endValues, verdictNumbers}
-pub use Rattle.capi.specs.declared.Checked.{Checked}
-pub use Rattle.capi.specs.declared.Told.{Told}
+pub use Rattle.told.specs.declared.Checked.{Checked}
+pub use Rattle.told.specs.declared.Told.{Told}
 
 -- no place and no node: the largest number of 32 bits, far above each
 unfoldable pub nowhere : ℕ
