@@ -11,7 +11,7 @@ use Rattle.rules.specs.declared.Value.{Value}
 use Rattle.rules.specs.declared.Value.the-variants.{Nothing, Null, Int, Field, Object, Proc}
 use Rattle.text.specs.Ascii.{ascii}
 use Rattle.text.specs.Text.{decimal, signed, further, pair, last}
-use Rattle.report.specs.Listing.{codeOf, chainWord, valueWords}
+use Rattle.listed.specs.Listing.{codeOf, chainWord, valueWords}
 use Rattle.text.specs.Written.{Wrote}
 use Rattle.text.proofs.WroteLaws.{both-wrote, wrote-as}
 

@@ -13,7 +13,7 @@ ghost use mir.Syntax.{w32};
 ghost use mir.Val.{toZ};
 ghost use Rattle.text.specs.Ascii.{ascii};
 ghost use Rattle.text.specs.Text.{decimal, signed, further, last};
-ghost use Rattle.report.specs.Listing.{chainWord, valueWords};
+ghost use Rattle.listed.specs.Listing.{chainWord, valueWords};
 ghost use Rattle.rules.specs.declared.Value.the-variants.{Field};
 ghost use Rattle.text.specs.Written.{Wrote};
 

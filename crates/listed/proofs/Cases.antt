@@ -16,7 +16,7 @@ use Rattle.rules.specs.declared.Stop.the-variants.{NoRule}
 use Rattle.rules.specs.declared.End.the-variants.{Stopped}
 use Rattle.text.specs.Ascii.{ascii}
 use Rattle.text.specs.Text.{digitCountBy, digitCount, decimal, signed, further, line}
-use Rattle.report.specs.Listing.{noInput, choicesTooLong, headerLine, rowLine, rowLines, stopWords, endWords, endLine, refusedLine, codeOf, chainWord, valueWords, cellLine, cellLines, fieldLine, fieldLines, objectLines, runLines, linesBy, listingLines, listing, mostChoices, printed}
+use Rattle.listed.specs.Listing.{noInput, choicesTooLong, headerLine, rowLine, rowLines, stopWords, endWords, endLine, refusedLine, codeOf, chainWord, valueWords, cellLine, cellLines, fieldLine, fieldLines, objectLines, runLines, linesBy, listingLines, listing, mostChoices, printed}
 
 -- opens the listing, as `opens` does the rules
 unfoldable lists : Unit {0}

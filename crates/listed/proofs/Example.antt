@@ -14,7 +14,7 @@ use Rattle.rules.specs.declared.Stop.the-variants.{Faulted, Full, OutOfRange}
 use Rattle.rules.specs.declared.End.the-variants.{UsedUp, Stopped}
 use Rattle.text.specs.Ascii.{ascii}
 use Rattle.text.specs.Text.{digitCountBy, digitCount, decimal, signed, further, line}
-use Rattle.report.specs.Listing.{noInput, choicesTooLong, headerLine, rowLine, rowLines, stopWords, endWords, endLine, refusedLine, codeOf, chainWord, valueWords, cellLine, cellLines, fieldLine, objectLines, runLines, linesBy, listingLines, listing, mostChoices, printed}
+use Rattle.listed.specs.Listing.{noInput, choicesTooLong, headerLine, rowLine, rowLines, stopWords, endWords, endLine, refusedLine, codeOf, chainWord, valueWords, cellLine, cellLines, fieldLine, objectLines, runLines, linesBy, listingLines, listing, mostChoices, printed}
 
 unfoldable pub script : List ℕ
 script =
