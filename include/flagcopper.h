@@ -165,14 +165,14 @@ static inline uint64_t flagcopper_frames(const uint64_t *workspace) { return wor
 static inline uint64_t flagcopper_objects(const uint64_t *workspace) { return workspace[1]; }
 static inline uint64_t flagcopper_parts(const uint64_t *workspace) { return workspace[2]; }
 
-/* A value is a word of 35 bits: its kind and, above it, what the kind is of. */
+/* A value is a word of 35 bits: its kind and, above it, what the kind is of. A word of another kind holds no value: no run leaves
+ * one there. 6 is reserved: until order 2 it was a stored fault, and it is not used again. */
 enum {
     FLAGCOPPER_NULL = 1,
     FLAGCOPPER_INT = 2,    /* its 32 bits: flagcopper_int */
     FLAGCOPPER_FIELD = 3,  /* its index, from 1 */
     FLAGCOPPER_OBJECT = 4, /* its number, from 0 */
-    FLAGCOPPER_PROC = 5,   /* flagcopper_node and flagcopper_chain */
-    FLAGCOPPER_FAULT = 6   /* its number, 1 to 7 */
+    FLAGCOPPER_PROC = 5    /* flagcopper_node and flagcopper_chain */
 };
 
 /* The cell of a frame; its name; its outer frame: 0 for none, k + 1 for frame k. */

@@ -2,6 +2,7 @@
 //! rows and every word of the workspace, those past its size included.
 
 use crate::generate::{case, Case};
+use crate::image::{children, kind, Image, Kind};
 use crate::search::{Compared, Found, Tally};
 use crate::subject::{Answer, Subject, ROW};
 
@@ -31,23 +32,21 @@ fn outcome(subject: &dyn Subject, case: &Case, with_rows: bool) -> Outcome {
 
 /// The first difference between the reference and a subject on a case, in words.
 pub fn difference(reference: &dyn Subject, subject: &dyn Subject, case: &Case) -> Option<String> {
-    compared(reference, subject, case).1
+    differs(outcome(reference, case, true), subject, case)
 }
 
-fn compared(reference: &dyn Subject, subject: &dyn Subject, case: &Case) -> (Answer, Option<String>) {
-    let wanted = outcome(reference, case, true);
+fn differs(wanted: Outcome, subject: &dyn Subject, case: &Case) -> Option<String> {
     let verdict = wanted.answer.verdict();
     let given = subject.check(&case.script, case.words);
     if verdict != given {
-        return (wanted.answer, Some(format!("check: {given:?} in place of {verdict:?}")));
+        return Some(format!("check: {given:?} in place of {verdict:?}"));
     }
     let traced = told_apart("trace", &wanted, &outcome(subject, case, true));
-    let found = traced.or_else(|| {
+    traced.or_else(|| {
         let ran = outcome(subject, case, false);
         let without_rows = Outcome { rows: ran.rows.clone(), ..wanted };
         told_apart("run", &without_rows, &ran)
-    });
-    (wanted.answer, found)
+    })
 }
 
 fn told_apart(call: &str, wanted: &Outcome, given: &Outcome) -> Option<String> {
@@ -82,6 +81,29 @@ fn told(answer: &Answer) -> String {
     }
 }
 
+/// What was met in a run: its answer, and whether what a call or a field assignment was to store faulted, with every frame used or not.
+fn met(case: &Case, outcome: &Outcome) -> Vec<String> {
+    let answer = &outcome.answer;
+    let part = answer.node.and_then(|node| stored_part(&case.script, node as usize));
+    let full = part.filter(|_| outcome.workspace[0] == 1_024).map(|part| format!("{part}, frames full"));
+    [told(answer)].into_iter().chain(part.map(str::to_string)).chain(full).collect()
+}
+
+/// Of which part that is to be stored the expression at a node is, or is inside of, in an accepted script.
+fn stored_part(script: &[u8], mut node: usize) -> Option<&'static str> {
+    let image = Image::of_bytes(script)?;
+    let parents = image.parents();
+    while kind(image.nodes[node][0]) == Some(Kind::Expression) {
+        let parent = image.nodes[parents[node]];
+        match (parent[0], children(parent).position(|child| child == node)) {
+            (33, Some(1)) => return Some("fault of an argument"),
+            (36, Some(2)) => return Some("fault of a right side"),
+            _ => node = parents[node],
+        }
+    }
+    None
+}
+
 /// Compares on generated cases of the seed until they differ or the cases are used up; `progress` hears of each case.
 pub fn search(
     reference: &dyn Subject,
@@ -91,8 +113,9 @@ pub fn search(
     progress: impl FnMut(&Tally),
 ) -> (Tally, Option<Found<Case>>) {
     let compared = |case: &Case| {
-        let (answer, how) = compared(reference, subject, case);
-        Compared { answer: told(&answer), amount: answer.steps, how }
+        let wanted = outcome(reference, case, true);
+        let (met, amount) = (met(case, &wanted), wanted.answer.steps);
+        Compared { met, amount, how: differs(wanted, subject, case) }
     };
     crate::search::search(seed, cases, Tally::of_unit("steps"), case, compared, progress)
 }

@@ -71,6 +71,15 @@ pub struct Image {
 }
 
 impl Image {
+    /// The parent of each node where every child is there; 0 for the root.
+    pub fn parents(&self) -> Vec<usize> {
+        let mut parents = vec![0; self.nodes.len()];
+        for (number, &node) in self.nodes.iter().enumerate() {
+            children(node).for_each(|child| parents[child] = number);
+        }
+        parents
+    }
+
     pub fn bytes(&self) -> Vec<u8> {
         let fields = self.codes.len() as u16;
         let contents = [10, fields, 10 + 2 * fields, self.nodes.len() as u16, self.names];

@@ -25,6 +25,7 @@ pub mod readback;
 pub mod reading;
 pub mod search;
 pub mod shrink;
+pub mod stops;
 pub mod subject;
 pub mod worked;
 pub mod written;

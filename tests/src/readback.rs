@@ -22,7 +22,6 @@ pub enum Value {
         node: u32,
         chain: Chain,
     },
-    Fault(u32),
 }
 
 #[derive(Clone, Copy, Debug, PartialEq, Eq)]
@@ -70,7 +69,7 @@ pub fn value(word: u64) -> Option<Value> {
             let (node, chain) = placed(payload);
             Value::Proc { node, chain }
         }
-        6 => Value::Fault(payload as u32),
+        // 0 and 7 were never kinds; 6 is reserved: a stored fault until order 2, and not used again
         _ => return None,
     })
 }

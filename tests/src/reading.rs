@@ -64,7 +64,7 @@ pub fn search(
             Reading::Image(_) => "image".to_string(),
             Reading::Refused { number, .. } => format!("refusal {number}"),
         };
-        Compared { answer, amount: case.text.len(), how }
+        Compared { met: vec![answer], amount: case.text.len(), how }
     };
     crate::search::search(seed, cases, Tally::of_unit("bytes"), |random| case(random, length), compared, progress)
 }

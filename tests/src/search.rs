@@ -4,14 +4,15 @@ use crate::random::Random;
 use std::collections::BTreeMap;
 use std::fmt;
 
-/// What came of a case: the answer in words, how much there was to do, and how the two differ, if they do.
+/// What came of a case: what was met, the answer in words and what else is counted; how much there was to do; how the two differ, if
+/// they do.
 pub struct Compared {
-    pub answer: String,
+    pub met: Vec<String>,
     pub amount: usize,
     pub how: Option<String>,
 }
 
-/// How often each answer was met, to see that the cases reach all of them.
+/// How often each thing was met, to see that the cases reach all of them.
 pub struct Tally {
     counts: BTreeMap<String, usize>,
     pub cases: usize,
@@ -26,7 +27,7 @@ impl Tally {
     }
 
     fn count(&mut self, compared: &Compared) {
-        *self.counts.entry(compared.answer.clone()).or_default() += 1;
+        compared.met.iter().for_each(|what| *self.counts.entry(what.clone()).or_default() += 1);
         self.cases += 1;
         self.amount += compared.amount;
     }

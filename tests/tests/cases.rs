@@ -1,9 +1,10 @@
-//! The scripts tried by hand (document 01, a to o) and the listing's example, on every subject.
+//! The scripts tried by hand (document 01, a to o), those of order 2, and the listing's example, on every subject.
 
 use flagcopper_tests::assemble::{parallel, skip, Branch};
 use flagcopper_tests::image::Image;
 use flagcopper_tests::independent::listing::listing;
 use flagcopper_tests::parse::script;
+use flagcopper_tests::stops::{stops, Stop};
 use flagcopper_tests::subject::{subjects, Answer, SIZE};
 
 const DONE: (u32, u32) = (1, 0);
@@ -154,6 +155,29 @@ fn o_control_has_255_parts() {
 }
 
 #[test]
+fn a_fault_to_store_stops_the_run() {
+    for Stop { name, text, number, node, steps, frames, objects } in stops() {
+        println!("{name}");
+        for run in wants(&script(&text), &zeros(steps + 1), (2, number), steps, frames, objects) {
+            assert_eq!(run.answer.node, Some(node));
+            assert_eq!(run.workspace[1_027], objects, "the field of an object that is there stays null, which is 1");
+        }
+        wants(&script(&text), &zeros(steps), USED_UP, steps, frames, objects);
+    }
+}
+
+/// Without the fault the scripts about room stop for room at that step.
+#[test]
+fn room_comes_after_a_fault_to_store() {
+    for Stop { name, text, steps, frames, objects, .. } in stops() {
+        let Some((_, room)) = name.split_once("_before_room_") else { continue };
+        let text = text.replace("null - 1", "0 - 1").replace("-2147482626", "-2147482625");
+        let room = room.parse().expect("a number of room");
+        wants(&script(&text), &zeros(steps + 1), (3, room), steps, frames, objects);
+    }
+}
+
+#[test]
 fn listing_example() {
     let image = script("var x; x = 1").bytes();
     assert_eq!(image.len(), 34);
@@ -173,18 +197,18 @@ fn listing_example() {
 #[test]
 fn listing_of_every_value_and_end() {
     let image = script(
-        "fields c 12, f 700: var x; {malloc(x); {x.c = proc y: skip; {x.f = c; {x.c = x.c; \
-         {(proc z: skip)(null - 1); {x = -5; x.c = 1}}}}}}",
+        "fields c 12, f 700, g 701: var x; {malloc(x); {x.c = proc y: skip; {x.f = c; {x.c = x.c; \
+         {x.g = x; {(proc z: skip)(null); {x = -5; x.c = 1}}}}}}}",
     );
     let text = listing(Some(&image.bytes()), Some(&[0; 20]));
     let (rows, rest) = text.split_at(text.find("end").expect("an end"));
-    assert_eq!(rows.lines().count(), 9);
-    let at = image.nodes.len() - 8;
+    assert_eq!(rows.lines().count(), 10);
+    let at = image.nodes.len() - 9;
     assert_eq!(
         rest,
         format!(
-            "end 2 fault 3 node {at} steps 8\ncell 0 name 0 int -5\ncell 1 name 2 fault 1\n\
-             object 0 field 12 proc 4 0\nobject 0 field 700 field 12\n"
+            "end 2 fault 3 node {at} steps 9\ncell 0 name 0 int -5\ncell 1 name 2 null\n\
+             object 0 field 12 proc 4 0\nobject 0 field 700 field 12\nobject 0 field 701 object 0\n"
         )
     );
     let rootless = script("(proc y: skip)(proc y: skip)");

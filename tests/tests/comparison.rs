@@ -4,6 +4,7 @@ use flagcopper_tests::compare::{difference, search};
 use flagcopper_tests::independent::{Independent, Wrong};
 use flagcopper_tests::parse::script;
 use flagcopper_tests::shrink::{read, shrunk, written};
+use flagcopper_tests::stops::{stops, Stop};
 use flagcopper_tests::subject::{subjects, Subject, SIZE};
 
 const SEED: u64 = 20;
@@ -29,6 +30,32 @@ fn every_wrong_turn_is_told_apart() {
     }
 }
 
+/// The worked scripts of order 2 on which a wrong turn gives another answer.
+fn told_apart_by(wrong: Wrong) -> Vec<&'static str> {
+    let answers_otherwise = |stop: &Stop| {
+        let (image, choices) = (script(&stop.text).bytes(), vec![0; stop.steps + 1]);
+        let answer = Independent::wrong(wrong).run(&image, &choices, &mut [0; SIZE]);
+        (answer.end, answer.number, answer.node, answer.steps) != (2, stop.number, Some(stop.node), stop.steps)
+    };
+    stops().iter().filter(|stop| answers_otherwise(stop)).map(|stop| stop.name).collect()
+}
+
+#[test]
+fn each_wrong_turn_of_order_2_on_its_worked_scripts() {
+    let seven = ["seven_before_argument"];
+    let place = ["three_before_right_side", "four_before_right_side"];
+    let frames = ["argument_before_room_1", "difference_before_room_1"];
+    let control = ["argument_before_room_3", "right_side_before_room_3"];
+    let plain = ["fault_in_argument", "fault_in_field", "fault_further_in", "fault_in_atom"];
+    assert_eq!(told_apart_by(Wrong::ArgumentBeforeSeven), seven);
+    assert_eq!(told_apart_by(Wrong::RightSideBeforePlace), place);
+    assert_eq!(told_apart_by(Wrong::FramesBeforeFault), frames);
+    assert_eq!(told_apart_by(Wrong::ControlBeforeFault), control);
+    for wrong in [Wrong::FaultIsNull, Wrong::FaultIsStored, Wrong::FaultAtTheCommand] {
+        assert_eq!(told_apart_by(wrong), [&plain[..], &frames, &control].concat(), "{wrong:?}");
+    }
+}
+
 /// Document 01: a body run in the caller's chain makes case e give 6.
 #[test]
 fn the_callers_chain_gives_six() {
@@ -47,8 +74,9 @@ fn the_right_ones_agree_and_every_answer_is_met() {
         let numbered =
             |what: &str, last: usize| (1..=last).map(|number| format!("{what} {number}")).collect::<Vec<_>>();
         let answers = [numbered("refusal", 10), numbered("fault", 7), numbered("room", 3)].concat();
-        for answer in answers.iter().map(String::as_str).chain(["done", "used up", "out of range"]) {
-            assert!(tally.of(answer) >= 5, "{answer} is met {} times", tally.of(answer));
+        let faults = ["fault of an argument", "fault of an argument, frames full", "fault of a right side"];
+        for what in answers.iter().map(String::as_str).chain(["done", "used up", "out of range"]).chain(faults) {
+            assert!(tally.of(what) >= 5, "{what} is met {} times", tally.of(what));
         }
     }
 }

@@ -37,9 +37,9 @@ fn parts_in_preorder() {
 
 #[test]
 fn values_in_cells_and_fields() {
-    let image = script("fields a 5, b 9: var x; {malloc(x); {x.b = proc y: skip; (proc z: skip)(null - x)}}");
+    let image = script("fields a 5, b 9: var x; {malloc(x); {x.b = proc y: skip; (proc z: skip)(b)}}");
     let (procedure, body) = (4, 6);
-    let frames = [(0, 2), (3, 4), (4, 6 + 8 + ((2 + 256) << 35))];
+    let frames = [(0, 2), (3, 4), (4, 3 + 16 + ((2 + 256) << 35))];
     let fields = [(1, 1), (OBJECTS, 1), (OBJECTS + 1, 5 + 8 * (1 + 2_048 * procedure))];
     let parts = [(2, 1), (PARTS, 1 + 8 * (2 + 2_048 * body))];
     words(&image, &[0; 4], &[&frames[..], &fields, &parts].concat());

@@ -30,10 +30,10 @@ fn read(image: &Image, choices: &[u8], wanted: (&[Frame], &[&[Value]], &[Part]))
 
 #[test]
 fn frames_objects_and_parts() {
-    let image = script("fields a 5, b 9: var x; {malloc(x); {x.b = proc y: skip; (proc z: skip)(null - x)}}");
+    let image = script("fields a 5, b 9: var x; {malloc(x); {x.b = proc y: skip; (proc z: skip)(0 - 1)}}");
     let frames = [
         Frame { name: 0, outer: None, cell: Value::Object(0) },
-        Frame { name: 2, outer: Some(0), cell: Value::Fault(1) },
+        Frame { name: 2, outer: Some(0), cell: Value::Int(-1) },
     ];
     let fields = [Value::Null, Value::Proc { node: 4, chain: Some(0) }];
     read(&image, &[0; 4], (&frames, &[&fields], &[Part::Command { node: 6, chain: Some(1) }]));
@@ -48,7 +48,9 @@ fn frames_objects_and_parts() {
 #[test]
 fn nothing_is_read_of_other_words() {
     assert!(Words::of(&[1; SIZE - 1]).is_none());
-    for word in [0, 7, u64::MAX] {
+    // 6 was a stored fault until order 2
+    for word in [0, 6, 6 + 8, 7, u64::MAX - 1, u64::MAX] {
+        assert_eq!((value(word), frame(word), part(word)), (None, None, None));
         let words = vec![word; SIZE];
         let words = Words::of(&words).expect("the size");
         assert_eq!((words.frames().count(), words.parts().count()), (0, 0));

@@ -1,15 +1,8 @@
 // Images as text for programs in C and Rust, as written.rt has the reader: a wrapper with its answer as numbers.
+use told::Spelt;
 use writer::Text;
 ghost use mathlib.Core.Path.{_≡_};
-ghost use Rattle.capi.specs.Images.{speltOf, TellsText};
-
-// The answer of the writer: verdict 1 is a text with its length, 2 a refusal with its number.
-#[repr(C)]
-pub struct Spelt {
-    pub verdict: u32,
-    pub number: u32,
-    pub length: usize,
-}
+ghost use Rattle.told.specs.Images.{speltOf, TellsText};
 
 fn tell_text(a: Text) -> Spelt
     ensures { λ r. ⌜ r ≡ speltOf a ⌝ }

@@ -9,6 +9,8 @@ use rules::End;
 use rules::SIZE;
 use rules::Stop;
 use rules::Verdict;
+use told::Checked;
+use told::Told;
 ghost use mathlib.Core.Path.{_≡_};
 ghost use lib.ListN.{length};
 ghost use Rattle.rules.specs.declared.Answer.the-variants.{Ending};
@@ -18,29 +20,10 @@ ghost use Rattle.rules.specs.Refusals.{check as checkOf};
 ghost use Rattle.rules.specs.State.{size as sizeOf};
 ghost use Rattle.rules.specs.Run.{answerOf};
 ghost use Rattle.words.specs.Lent.{wordsAfter, rowsAfter};
-ghost use Rattle.capi.specs.Told.{checkedOf, toldOf};
+ghost use Rattle.told.specs.Told.{checkedOf, toldOf};
 
 // No place and no node: both count from 0, so zero would be a real one.
 const NOWHERE: u32 = 4294967295;
-
-// The answer of the check: verdict 1 is accepted, 2 refused with the reason's number and place.
-#[repr(C)]
-pub struct Checked {
-    pub verdict: u32,
-    pub number: u32,
-    pub place: u32,
-}
-
-// The answer of a run: a refusal and its place, or an end, its number and node, and the steps taken.
-#[repr(C)]
-pub struct Told {
-    pub refusal: u32,
-    pub place: u32,
-    pub end: u32,
-    pub number: u32,
-    pub node: u32,
-    pub steps: usize,
-}
 
 // ---- answers as numbers
 

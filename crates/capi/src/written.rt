@@ -1,16 +1,8 @@
 // The reader of written scripts for programs in C and Rust, as lib.rt has the interpreter: a wrapper with its answer as numbers.
 use reader::Reading;
+use told::Written;
 ghost use mathlib.Core.Path.{_≡_};
-ghost use Rattle.capi.specs.Written.{writtenOf, TellsReading, wordsAsked};
-
-// The answer of the reader: verdict 1 is an image with its length, 2 a refusal with its number and line. Lines count from 1; 0 is none.
-#[repr(C)]
-pub struct Written {
-    pub verdict: u32,
-    pub number: u32,
-    pub line: usize,
-    pub length: usize,
-}
+ghost use Rattle.told.specs.Written.{writtenOf, TellsReading, wordsAsked};
 
 fn tell_reading(a: Reading) -> Written
     ensures { λ r. ⌜ r ≡ writtenOf a ⌝ }

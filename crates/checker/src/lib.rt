@@ -1,9 +1,6 @@
 // The check of a script image (document 01, "Refused scripts"): the first broken rule in the fixed order, and its place.
 // Each group of rules has its own function; a reason is its number, and 0 is none. Linear in the number of nodes.
 
-mod nodes;
-mod uses;
-
 use rules::MOST_FIELDS;
 use rules::MOST_NAMES;
 use rules::MOST_NODES;
@@ -111,7 +108,7 @@ fn uses_on(img: &[u8], low: u64, high: u64) -> Verdict
     requires { ⌜ rulesSay (now img) nodeRules (nodesOf (now img)) ≡ Accepted ⌝ }
     ensures { λ r. ⌜ ((visible : Names) → Shows low high visible → r ≡ usesSay visible (now (img .entry))) ⌝ }
 {
-    let v = uses::all_uses(img);
+    let v = usecheck::all_uses(img);
     match v {
         Verdict::Accepted => namecheck::all_names(img, low, high),
         Verdict::Refused(k, p) => Verdict::Refused(k, p),
@@ -122,7 +119,7 @@ fn nodes_on(img: &[u8], low: u64, high: u64) -> Verdict
     requires { ⌜ Sized (now img) ⌝ }
     ensures { λ r. ⌜ ((visible : Names) → Shows low high visible → r ≡ nodesSay visible (now (img .entry))) ⌝ }
 {
-    let v = nodes::all_nodes(img);
+    let v = nodecheck::all_nodes(img);
     match v {
         Verdict::Accepted => uses_on(img, low, high),
         Verdict::Refused(k, p) => Verdict::Refused(k, p),

@@ -21,7 +21,7 @@ use Rattle.io.specs.Counts.{Counts}
 use Rattle.text.specs.Written.{Wrote, Line}
 use Rattle.text.proofs.WroteLaws.{both-wrote, wrote-as}
 use Rattle.text.proofs.LineLaws.{line-of, line-same}
-use Rattle.encoder.specs.Lines.{noInput, textTooLong, listTooLong, imageLine, refusedLine, rowLine, secondLine}
+use Rattle.wording.specs.Lines.{noInput, textTooLong, listTooLong, imageLine, refusedLine, rowLine, secondLine}
 use Rattle.encoder.specs.Encodes as E
 use Rattle.encoder.specs.Encodes.{mostText, mostList, Short, lentBytes, lentWords, badListLines, badTextLines, Encodes, given}
 use Rattle.encoder.specs.Says.{mostName, mostPrinted, AnswerSays, Shows, IsRefused, RefusalSays}

@@ -8,7 +8,7 @@ use Rattle.text.specs.Ascii.{ascii}
 use Rattle.text.specs.Written.{Wrote, Line}
 use Rattle.text.proofs.WroteLaws.{both-wrote, wrote-as}
 use Rattle.text.proofs.LineLaws.{line-of}
-use Rattle.encoder.specs.Lines.{partName}
+use Rattle.wording.specs.Lines.{partName}
 
 pub part-wrote : (q r : ℕ) (image d e o : List ℕ) → length image ≤ 4096 → 4608 ≤ length d → Wrote (length image) d 0 image q e → Wrote 5 e q (ascii ".part") r o
     → Line 4608 (partName image) d r o

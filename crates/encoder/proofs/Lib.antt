@@ -1,7 +1,3 @@
-pub mod WordLaws
-pub mod LineLaws
-pub mod CouldLaws
-pub mod SecondLaws
 pub mod FaultLaws
 pub mod AnswerLaws
 pub mod FileLaws

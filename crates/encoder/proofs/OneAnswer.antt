@@ -18,7 +18,7 @@ use Rattle.fieldlist.proofs.Complete.{not-listed}
 use Rattle.reader.specs.declared.why.Why.{Why}
 use Rattle.reader.specs.Why.{Stops}
 use Rattle.reader.proofs.WhyOne.{place-one, flags-one}
-use Rattle.encoder.specs.Lines.{imageLine}
+use Rattle.wording.specs.Lines.{imageLine}
 use Rattle.encoder.specs.Encodes.{lentBytes, lentWords, badListLines, badTextLines, Encodes, text-missing, list-missing, text-too-long, list-too-long, an-image, bad-list, bad-text}
 
 -- ---- the lines of a refusal

@@ -14,7 +14,7 @@ use Rattle.grammar.specs.Reads.{mostBytes, wordsFor, Reads, RefusedText}
 use Rattle.fieldlist.specs.Judged.{wrong, judged}
 use Rattle.reader.specs.declared.why.Why.{Why}
 use Rattle.reader.specs.Why.{Stops}
-use Rattle.encoder.specs.Lines.{noInput, textTooLong, listTooLong, imageLine, refusedLine, rowLine, secondLine}
+use Rattle.wording.specs.Lines.{noInput, textTooLong, listTooLong, imageLine, refusedLine, rowLine, secondLine}
 
 -- ---- limits of the program alone
 

@@ -1,4 +1,2 @@
-pub mod Lines
-pub mod Words
 pub mod Encodes
 pub mod Says

@@ -1,15 +1,15 @@
 // What is printed for a text and a list of fields, and the image. The files are tested first (missing, too long), then the reader is asked; only
 // where it refuses is it asked again, for what people are told.
-use crate::lines::image_line;
-use crate::lines::list_too_long;
-use crate::lines::no_input;
-use crate::lines::refused_line;
-use crate::lines::row_line;
-use crate::lines::text_too_long;
-use crate::second::second_line;
 use letters::classes;
 use reader::Reading;
 use reader::why::Why;
+use wording::lines::image_line;
+use wording::lines::list_too_long;
+use wording::lines::no_input;
+use wording::lines::refused_line;
+use wording::lines::row_line;
+use wording::lines::text_too_long;
+use wording::second::second_line;
 ghost use mathlib.Core.Path.{_≡_};
 ghost use mathlib.Core.Option.{some};
 ghost use Prim.Native.Nat.{_<_, _≤_};

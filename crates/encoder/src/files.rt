@@ -7,7 +7,7 @@ ghost use mathlib.Core.Path.{_≡_};
 ghost use Prim.Native.Nat.{_≤_};
 ghost use lib.ListN.{length};
 ghost use Rattle.text.specs.Written.{Line};
-ghost use Rattle.encoder.specs.Lines.{partName};
+ghost use Rattle.wording.specs.Lines.{partName};
 ghost use Rattle.encoder.specs.Encodes.{lentBytes};
 ghost use Rattle.encoder.specs.Says.{mostName, mostPrinted, Fits};
 

@@ -1,7 +1,3 @@
 // The program `encode` as a library: what is printed for a text and a list of fields, and the files.
 pub mod answer;
-mod could;
 pub mod files;
-mod lines;
-mod second;
-mod words;

@@ -4,3 +4,4 @@ pub mod Runs
 pub mod Kinds
 pub mod Pieces
 pub mod Says
+pub mod Upto

@@ -18,7 +18,7 @@ use Rattle.rules.specs.Image.{wordAt, fieldStart, fieldsOf, nodeStart, nodesOf,
 use Rattle.rules.specs.State.{size}
 use Rattle.rules.specs.Refusals.{check, lowest, atPlace, orElse, badContents, rightLength, ruleOf, rule}
 use Rattle.rules.proofs.Reasons.{check-in-order}
-use Rattle.report.specs.Listing.{listing, listingLines, linesBy, printed}
+use Rattle.listed.specs.Listing.{listing, listingLines, linesBy, printed}
 use Rattle.lister.proofs.Printed.{printed-whole, printed-long}
 
 -- ---- a script that is longer than any image

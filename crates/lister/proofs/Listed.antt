@@ -27,7 +27,7 @@ use Rattle.safety.proofs.Preserved.{run-sound, bare-given}
 use Rattle.words.specs.LaidOut.{LaidOut}
 use Rattle.words.specs.Contracts.{Traces}
 use Rattle.holds.proofs.Fitting.{store-good}
-use Rattle.report.specs.Listing.{refusedLine, runLines, linesBy, listingLines, listing}
+use Rattle.listed.specs.Listing.{refusedLine, runLines, linesBy, listingLines, listing}
 use Rattle.text.specs.Written.{Line}
 use Rattle.text.proofs.LineLaws.{line-same}
 use Rattle.show.specs.Entries.{rowsIn, runText}

@@ -7,7 +7,7 @@ use mathlib.Core.List.{List}
 use native.Mathlib.Omega.{arith}
 use lib.ListN.{length}
 use borrow.Author.Tests.{le-leb, lt-leb}
-use Rattle.report.specs.Listing.{noInput, choicesTooLong, listing, mostChoices, printed}
+use Rattle.listed.specs.Listing.{noInput, choicesTooLong, listing, mostChoices, printed}
 use Rattle.text.specs.Written.{Line}
 use Rattle.text.proofs.LineLaws.{line-same}
 use Rattle.lister.specs.Given.{given}

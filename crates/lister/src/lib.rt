@@ -6,7 +6,7 @@ use rules::SIZE;
 ghost use mathlib.Core.Path.{_≡_};
 ghost use Prim.Native.Nat.{_≤_};
 ghost use lib.ListN.{length};
-ghost use Rattle.report.specs.Listing.{listing as listingOf, printed};
+ghost use Rattle.listed.specs.Listing.{listing as listingOf, printed};
 ghost use Rattle.text.specs.Written.{Line};
 ghost use Rattle.lister.specs.Given.{given};
 

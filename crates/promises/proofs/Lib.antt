@@ -3,3 +3,4 @@ pub mod LastStep
 pub mod Promises
 pub mod Excluded
 pub mod WrittenScripts
+pub mod Changed

@@ -314,8 +314,8 @@ module _ (img : List ℕ) (are-bytes : Bytes img) (words : ℕ) (accepts : Accep
     pub outer-frame-exists : (k j : ℕ) (f : Frame) → frameAt s k ≡ some f → f .outer ≡ From j → (g : Frame) × (frameAt s j ≡ some g)
     outer-frame-exists = Demand3.outer-frame-exists words img are-bytes is-accepted choices s o at
 
-    -- .. of one of the kinds 1 to 6: zero is the kind of nothing
-    pub held-kind-is-not-zero : (v : Value) → HeldIn s v → OneTo 6 (kindNo v)
+    -- .. of one of the kinds 1 to 5: zero is the kind of nothing
+    pub held-kind-is-not-zero : (v : Value) → HeldIn s v → OneTo 5 (kindNo v)
     held-kind-is-not-zero = Zero.no-kind-is-zero words img are-bytes is-accepted choices s o at
 
     pub nothing-is-never-held : HeldIn s Nothing → ⊥

@@ -1,13 +1,8 @@
-pub mod DecideLaws
-pub mod JudgeLaws
-pub mod WorthLaws
-pub mod BuildLaws
-pub mod PassedLaws
 pub mod StepLaws
 pub mod NameLaws
 pub mod PlaceLaws
-pub mod FinishLaws
 pub mod TextLaws
+pub mod CodeLaws
 pub mod ReadLaws
 pub mod TakingLaws
 pub mod WhyLaws

@@ -18,13 +18,13 @@ use Rattle.fieldlist.specs.Answer.{Spans, words, entriesOf}
 use Rattle.dues.specs.declared.Dues.{Dues}
 use Rattle.dues.specs.declared.Made.{Made}
 use Rattle.dues.specs.Stack.{Standing}
-use Rattle.reader.specs.declared.judge.Judged.{Judged}
-use Rattle.reader.specs.declared.judge.Judged.the-variants.{Wrong, Takes, Names}
+use Rattle.judging.specs.declared.judge.Judged.{Judged}
+use Rattle.judging.specs.declared.judge.Judged.the-variants.{Wrong, Takes, Names}
 use Rattle.reader.specs.declared.step.Kept.{Kept}
 use Rattle.reader.specs.declared.step.Step.{Step}
-use Rattle.reader.specs.Built.{Passed, Roomy}
-use Rattle.reader.specs.Upto.{pieceAt, Upto, one-more}
-use Rattle.reader.specs.Judged.{TakenAs, Judges, JudgeSays}
+use Rattle.building.specs.Built.{Passed, Roomy}
+use Rattle.letters.specs.Upto.{pieceAt, Upto, one-more}
+use Rattle.judging.specs.Judged.{TakenAs, Judges, JudgeSays}
 use Rattle.reader.specs.Under.{Lasting, Under, TakeSays, Facing, Told}
 use Rattle.reader.proofs.NameLaws.{named-more, spans-more}
 use Rattle.reader.proofs.StepLaws.{taken-passed, taken-room, taken-tag, taken-under}

@@ -19,10 +19,10 @@ use Rattle.tables.specs.Tabled.{Tabled}
 use Rattle.reader.specs.declared.Reading.{Reading}
 use Rattle.reader.specs.declared.Reading.the-variants.{Image, Refused}
 use Rattle.reader.specs.declared.text.Ending.{Ending}
-use Rattle.reader.specs.Finish.{Out}
+use Rattle.building.specs.Finish.{Out}
 use Rattle.reader.specs.Under.{Lasting}
 use Rattle.reader.specs.Says.{Stood, Finds, TextSays, cleared, Handed, Withheld, Listens, early, wordsAfter, Accepts, Denies, ReadSays}
-use Rattle.reader.proofs.FinishLaws.{narrow-codes}
+use Rattle.reader.proofs.CodeLaws.{narrow-codes}
 
 -- ---- lengths
 

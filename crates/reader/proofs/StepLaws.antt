@@ -33,13 +33,13 @@ use Rattle.letters.specs.declared.places.Place.{Place}
 use Rattle.letters.specs.Says.{Found, pieceBy}
 use Rattle.fieldlist.specs.declared.FieldRows.{FieldRows}
 use Rattle.fieldlist.specs.Answer.{Spans, words, entriesOf}
-use Rattle.reader.specs.Built.{Built, Adds, Passed, Roomy}
-use Rattle.reader.specs.Worth.{Valid}
-use Rattle.reader.specs.Upto.{pieceAt, Upto}
-use Rattle.reader.specs.Judged.{TakenAs}
+use Rattle.building.specs.Built.{Built, Adds, Passed, Roomy}
+use Rattle.judging.specs.Worth.{Valid}
+use Rattle.letters.specs.Upto.{pieceAt, Upto}
+use Rattle.judging.specs.Judged.{TakenAs}
 use Rattle.reader.specs.declared.step.Kept.{Kept}
 use Rattle.reader.specs.Under.{Lasting, Under, TakeSays}
-use Rattle.reader.proofs.BuildLaws.{one-made}
+use Rattle.building.proofs.BuildLaws.{one-made}
 
 -- ---- the stack
 

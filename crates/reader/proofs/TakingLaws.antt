@@ -18,10 +18,10 @@ use Rattle.dues.specs.declared.Taker.{Taker}
 use Rattle.dues.specs.declared.Taker.the-variants.{At, Nowhere}
 use Rattle.dues.specs.Stack.{Stacked, passedItems, TakenBy, TakerSays}
 use Rattle.dues.proofs.StackLaws.{taker-goes-on}
-use Rattle.reader.specs.Built.{EndSays}
+use Rattle.building.specs.Built.{EndSays}
 use Rattle.reader.specs.Taking.{Taken, KindSays, Asked}
 use Rattle.reader.specs.Why.{Tells, Could}
-use Rattle.reader.proofs.PassedLaws.{finish-all}
+use Rattle.building.proofs.PassedLaws.{finish-all}
 
 -- ---- one kind
 

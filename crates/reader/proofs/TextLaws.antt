@@ -25,12 +25,12 @@ use Rattle.dues.specs.Words.{dueWord}
 use Rattle.dues.specs.Stack.{stackOf, Stacked, Standing}
 use Rattle.tables.proofs.NodeLaws.{falling-none}
 use Rattle.tables.proofs.Tabling.{tabled-none}
-use Rattle.reader.specs.declared.finish.Whole.{Whole}
+use Rattle.building.specs.declared.finish.Whole.{Whole}
 use Rattle.reader.specs.declared.step.Step.{Step}
 use Rattle.reader.specs.declared.text.Ending.{Ending}
-use Rattle.reader.specs.Upto.{pieceAt, none-yet}
-use Rattle.reader.specs.Built.{Roomy, Built}
-use Rattle.reader.specs.Finish.{EndSaysAll, Ends}
+use Rattle.letters.specs.Upto.{pieceAt, none-yet}
+use Rattle.building.specs.Built.{Roomy, Built}
+use Rattle.building.specs.Finish.{EndSaysAll, Ends}
 use Rattle.reader.specs.Under.{Under, Facing, Faces, Told, StepSays}
 use Rattle.reader.specs.Says.{Stood, Finds, TextSays}
 

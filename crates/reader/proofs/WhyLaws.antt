@@ -20,7 +20,7 @@ use Rattle.fieldlist.specs.Answer.{entriesOf}
 use Rattle.dues.specs.Stack.{Stacked, Standing}
 use Rattle.reader.specs.declared.text.Ending.{Ending}
 use Rattle.reader.specs.declared.why.Why.{Why}
-use Rattle.reader.specs.Upto.{pieceAt, Upto, none-yet, one-more}
+use Rattle.letters.specs.Upto.{pieceAt, Upto, none-yet, one-more}
 use Rattle.reader.specs.Says.{Finds, TextSays}
 use Rattle.reader.specs.Taking.{Asked}
 use Rattle.reader.specs.Why.{Answers, There, Stops, WhySays}

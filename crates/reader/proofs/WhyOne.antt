@@ -22,7 +22,7 @@ use Rattle.letters.proofs.Determined.{next-one}
 use Rattle.fieldlist.specs.declared.FieldRows.{FieldRows}
 use Rattle.fieldlist.specs.Answer.{entriesOf, RightRows}
 use Rattle.reader.specs.declared.why.Why.{Why}
-use Rattle.reader.specs.Upto.{pieceAt, Upto, none-yet, one-more}
+use Rattle.letters.specs.Upto.{pieceAt, Upto, none-yet, one-more}
 use Rattle.reader.specs.Why.{Answers, There, Tells, Could, Stops, WhySays}
 
 -- ---- the byte behind the same places

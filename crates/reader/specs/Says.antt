@@ -20,7 +20,7 @@ use Rattle.fieldlist.specs.declared.FieldRows.{FieldRows}
 use Rattle.fieldlist.specs.Answer.{entriesOf}
 use Rattle.tables.specs.Tabled.{Tabled}
 use Rattle.dues.specs.Stack.{Stacked}
-use Rattle.reader.specs.Upto.{pieceAt, Upto}
+use Rattle.letters.specs.Upto.{pieceAt, Upto}
 use Rattle.reader.specs.Under.{Lasting}
 use Rattle.reader.specs.declared.Reading.{Reading}
 use Rattle.reader.specs.declared.Reading.the-variants.{Image, Refused}

@@ -6,7 +6,7 @@ use mathlib.Core.List.{List}
 use lib.ListN.{length, getD}
 use Rattle.reading.specs.Items.{Item}
 use Rattle.reading.specs.Table.{Due, went, stuck, feed}
-use Rattle.reader.specs.Built.{EndSays}
+use Rattle.building.specs.Built.{EndSays}
 
 -- a token of kind k is taken, whatever nodes came out so far
 pub record Taken (ds : List Due) (k : ℕ) : Type 0 where

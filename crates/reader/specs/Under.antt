@@ -18,8 +18,8 @@ use Rattle.dues.specs.declared.Dues.{Dues}
 use Rattle.dues.specs.declared.Made.{Made}
 use Rattle.dues.specs.Words.{dueWords, madeItems}
 use Rattle.dues.specs.Stack.{Stacked, PassesAll, passedItems, Piled}
-use Rattle.reader.specs.Upto.{pieceAt, Upto}
-use Rattle.reader.specs.Built.{Built, Adds}
+use Rattle.letters.specs.Upto.{pieceAt, Upto}
+use Rattle.building.specs.Built.{Built, Adds}
 use Rattle.reader.specs.declared.step.Kept.{Kept}
 use Rattle.reader.specs.declared.step.Step.{Step}
 

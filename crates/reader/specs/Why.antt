@@ -15,7 +15,7 @@ use Rattle.letters.specs.declared.places.Place.{Place}
 use Rattle.letters.specs.Says.{NextSays}
 use Rattle.fieldlist.specs.declared.FieldRows.{FieldRows}
 use Rattle.fieldlist.specs.Answer.{entriesOf}
-use Rattle.reader.specs.Upto.{pieceAt, Upto}
+use Rattle.letters.specs.Upto.{pieceAt, Upto}
 use Rattle.reader.specs.Says.{cleared}
 use Rattle.reader.specs.declared.why.Why.{Why}
 

@@ -1,15 +1,15 @@
 // One place of a text: judged first, and then written down.
-use crate::build;
-use crate::judge;
-use crate::judge::Judged;
+use building::build;
 use dues::Dues;
 use dues::Made;
 use dues::stack;
 use fieldlist::FieldRows;
+use judging::judge;
+use judging::judge::Judged;
 use letters::places::Place;
 ghost use Prim.Native.Nat.{_+_, _<_, _≤_};
 ghost use lib.ListN.{length};
-ghost use Rattle.reader.specs.Built.{Roomy, Passed};
+ghost use Rattle.building.specs.Built.{Roomy, Passed};
 ghost use Rattle.fieldlist.specs.Answer.{RightRows};
 ghost use Rattle.reader.specs.Under.{TakeSays, Faces, StepSays};
 

@@ -1,7 +1,7 @@
 // A whole text, place by place.
-use crate::finish;
-use crate::finish::Whole;
 use crate::step;
+use building::finish;
+use building::finish::Whole;
 use fieldlist::FieldRows;
 use letters::places;
 use letters::places::Place;

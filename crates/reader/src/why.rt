@@ -1,7 +1,7 @@
 // Where the reading of a text ended, told to a person: what stood there and what could have stood there, by the table's own answers. The text is read
 // once more, so that `read` has nothing to do with it.
-use crate::build;
 use crate::text;
+use building::build;
 use dues::Taker;
 use dues::stack;
 use fieldlist::FieldRows;

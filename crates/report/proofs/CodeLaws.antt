@@ -5,7 +5,7 @@ use mathlib.Core.List.{List}
 use native.Mathlib.Omega.{arith}
 use lib.ListN.{length, getD, List·getD-eq-default}
 use Rattle.rules.specs.Image.{codeAt}
-use Rattle.report.specs.Listing.{codeOf}
+use Rattle.listed.specs.Listing.{codeOf}
 
 pub past-end : (img : List ℕ) (i : ℕ) → length img ≤ i → _≡_ {A = ℕ} 0 (getD img i 0) × (0 < 256)
 past-end img i h = (sym (List·getD-eq-default img 0 h), omega arith)

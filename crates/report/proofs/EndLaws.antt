@@ -11,7 +11,7 @@ use Rattle.rules.specs.declared.End.the-variants.{Done, UsedUp, Stopped}
 use Rattle.rules.specs.Numbers.{endNo, stopNo}
 use Rattle.text.specs.Ascii.{ascii}
 use Rattle.text.specs.Text.{digitCountBy, digitCount, decimal, further, line, pair, last}
-use Rattle.report.specs.Listing.{stopWords, endWords, endLine}
+use Rattle.listed.specs.Listing.{stopWords, endWords, endLine}
 use Rattle.text.specs.Written.{Wrote, Line}
 use Rattle.text.proofs.WroteLaws.{both-wrote}
 use Rattle.report.proofs.LineLaws.{line-as}

@@ -8,7 +8,7 @@ use lib.ListN.{length}
 use Rattle.rules.specs.declared.Value.{Value}
 use Rattle.rules.specs.declared.Frame.{Frame}
 use Rattle.words.specs.Lent.{StepRow}
-use Rattle.report.specs.Listing.{rowLine, rowLines, cellLine, cellLines, fieldLine, fieldLines, objectLines}
+use Rattle.listed.specs.Listing.{rowLine, rowLines, cellLine, cellLines, fieldLine, fieldLines, objectLines}
 use Rattle.rules.specs.State.{AnObject}
 
 pub flatten-append : (xs ys : List (List ℕ)) → flatten (xs ++ ys) ≡ flatten xs ++ flatten ys

@@ -2,6 +2,4 @@ pub mod CodeLaws
 pub mod ValueLaws
 pub mod LineLaws
 pub mod EndLaws
-pub mod Example
 pub mod Growing
-pub mod Cases

@@ -10,7 +10,7 @@ use Rattle.rules.specs.Image.{codeAt}
 use Rattle.words.specs.Lent.{rowWords}
 use Rattle.text.specs.Ascii.{ascii}
 use Rattle.text.specs.Text.{decimal, further, line, pair, last}
-use Rattle.report.specs.Listing.{headerLine, rowLine, refusedLine, valueWords, cellLine, fieldLine, noInput, choicesTooLong}
+use Rattle.listed.specs.Listing.{headerLine, rowLine, refusedLine, valueWords, cellLine, fieldLine, noInput, choicesTooLong}
 use Rattle.text.specs.Written.{Wrote, Line}
 use Rattle.text.proofs.WroteLaws.{both-wrote, wrote-as}
 use Rattle.text.proofs.LineLaws.{line-of}

@@ -8,10 +8,10 @@ use mir.Val.{toZ}
 use Rattle.rules.specs.declared.Chain.{Chain}
 use Rattle.rules.specs.declared.Chain.the-variants.{Empty, From}
 use Rattle.rules.specs.declared.Value.{Value}
-use Rattle.rules.specs.declared.Value.the-variants.{Nothing, Null, Int, Field, Object, Proc, Fault}
+use Rattle.rules.specs.declared.Value.the-variants.{Nothing, Null, Int, Field, Object, Proc}
 use Rattle.text.specs.Ascii.{ascii}
 use Rattle.text.specs.Text.{decimal, signed, further, pair, last}
-use Rattle.report.specs.Listing.{codeOf, chainWord, valueWords}
+use Rattle.listed.specs.Listing.{codeOf, chainWord, valueWords}
 use Rattle.text.specs.Written.{Wrote}
 use Rattle.text.proofs.WroteLaws.{both-wrote, wrote-as}
 
@@ -79,8 +79,3 @@ module _ (at r : ℕ) (d o : List ℕ) where
     unfolding further valueWords
     value-proc v n ch e w =
         by-kind 48 v (Proc n ch) (further (ascii "proc" ∷ decimal n ∷ chainWord ch ∷ [])) e w refl (omega arith)
-
-    pub value-fault : (v : Value) (k : ℕ) → v ≡ Fault k → Wrote 28 d at (last (ascii " fault") k) r o
-        → Wrote 48 d at (further (valueWords img v)) r o
-    unfolding further valueWords
-    value-fault v k e w = by-kind 28 v (Fault k) (last (ascii " fault") k) e w refl (omega arith)

@@ -8,7 +8,7 @@ ghost use Prim.Native.Nat.{_≤_};
 ghost use lib.ListN.{length};
 ghost use Rattle.rules.specs.declared.Stop.the-variants.{Faulted, Full};
 ghost use Rattle.rules.specs.declared.End.the-variants.{Stopped};
-ghost use Rattle.report.specs.Listing.{endLine};
+ghost use Rattle.listed.specs.Listing.{endLine};
 ghost use Rattle.text.specs.Written.{Line};
 
 fn fault_line(out: &mut [u8], number: u32, node: u32, steps: usize) -> usize

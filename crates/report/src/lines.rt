@@ -10,7 +10,7 @@ use text::put_pair;
 use text::put_text;
 ghost use Prim.Native.Nat.{_≤_};
 ghost use lib.ListN.{length};
-ghost use Rattle.report.specs.Listing.{headerLine, rowLine, refusedLine, cellLine, fieldLine, noInput, choicesTooLong};
+ghost use Rattle.listed.specs.Listing.{headerLine, rowLine, refusedLine, cellLine, fieldLine, noInput, choicesTooLong};
 ghost use Rattle.text.specs.Written.{Line};
 
 pub fn header_line(out: &mut [u8]) -> usize

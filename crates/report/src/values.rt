@@ -13,7 +13,7 @@ ghost use mir.Syntax.{w32};
 ghost use mir.Val.{toZ};
 ghost use Rattle.text.specs.Ascii.{ascii};
 ghost use Rattle.text.specs.Text.{decimal, signed, further, last};
-ghost use Rattle.report.specs.Listing.{chainWord, valueWords};
+ghost use Rattle.listed.specs.Listing.{chainWord, valueWords};
 ghost use Rattle.rules.specs.declared.Value.the-variants.{Field};
 ghost use Rattle.text.specs.Written.{Wrote};
 
@@ -75,6 +75,5 @@ pub fn put_value(out: &mut [u8], at: usize, img: &[u8], v: Value) -> usize
         Value::Field(f) => put_field(out, at, img, f),
         Value::Object(o) => put_last(out, at, b" object", o as u64),
         Value::Proc(n, ch) => put_proc(out, at, n, ch),
-        Value::Fault(k) => put_last(out, at, b" fault", k as u64),
     }
 }

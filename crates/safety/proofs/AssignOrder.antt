@@ -18,7 +18,7 @@ use Rattle.rules.specs.Refusals.{check}
 use Rattle.rules.specs.Published.{Bytes}
 use Rattle.rules.specs.Eval.{Res, ok, _>>=_, there, eval}
 use Rattle.rules.specs.Control.{Control, move, movable}
-use Rattle.rules.specs.Step.{Deed, deed, exec}
+use Rattle.rules.specs.Step.{Deed, deed, execBy, exec}
 use Rattle.safety.specs.Needs.{needsExp, needs}
 use Rattle.safety.proofs.LinksNeeded.{or-from-left}
 use Rattle.safety.proofs.Demand3.{At, needed-name-is-found}
@@ -31,7 +31,7 @@ valueFirst s ch x e = do
   ok (deed (SetCell v k) Ended)
 
 found-either-order : (sc : Script) (s : Store) (ch : Chain) (n x k : ℕ) (e : Exp) → find (s .frames) x ch ≡ some k → exec sc s ch (assign n x e) ≡ valueFirst s ch x e
-unfolding exec valueFirst _>>=_ there
+unfolding execBy valueFirst _>>=_ there
 found-either-order sc s ch n x k e h = rw h (go (eval s ch e))
   where
     go : (r : Res Value) → (r >>= (λ v. ok (deed (SetCell v k) Ended))) ≡ (r >>= (λ v. ok (deed (SetCell v k) Ended)))

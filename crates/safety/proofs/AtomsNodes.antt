@@ -13,10 +13,10 @@ use Rattle.rules.specs.declared.Next.the-variants.{Ended, GoesOn, Repeats, Ente
 use Rattle.rules.specs.declared.Effect.the-variants.{Keep}
 use Rattle.rules.specs.State.{Store}
 use Rattle.rules.specs.Script.{Script, Procedure, formal}
-use Rattle.rules.specs.Eval.{Res, ok, fault, stuck, _>>=_, Closure, closure, eval}
+use Rattle.rules.specs.Eval.{Res, ok, fault, stuck, _>>=_, Closure, closure}
 use Rattle.rules.specs.Control.{Control, move, movable, goesTo}
 use Rattle.safety.specs.Safe.{Nested}
-use Rattle.rules.specs.Step.{does, step, Deed, deed, enter, calling, exec, miniOO}
+use Rattle.rules.specs.Step.{does, step, Deed, deed, enter, calling, intoField, execBy, exec, miniOO}
 use Rattle.safety.specs.Atoms.{Sealed, AtomMoves}
 use Rattle.safety.proofs.Plans.{RuleDoes}
 use Rattle.safety.proofs.ReachesStep.{Goes, goes-only}
@@ -62,18 +62,20 @@ DoesAs ch c (deed e x) = EntersAs ch c x
 
 module _ (sc : Script) where
   exec-enters : (s : Store) (ch : Chain) (c : Cmd) → Gives (DoesAs ch c) (exec sc s ch c)
-  unfolding exec calling enter
+  unfolding execBy calling intoField enter
   exec-enters s ch (noCmd n) = tt
   exec-enters s ch (var n x c) = tt
   exec-enters s ch (call n a b) =
-      gives-bind (DoesAs ch (call n a b)) _ _ (λ f. gives-bind (DoesAs ch (call n a b)) _ _ (λ p. go p))
+      gives-bind P _ _ (λ f. gives-bind P _ _ (λ p. gives-bind P _ _ (λ v. go v p)))
     where
-      into : (v : Value) (dh : Chain) (p : Procedure) → DoesAs ch (call n a b) (enter s dh v p)
+      P : Deed → Type 0
+      P = DoesAs ch (call n a b)
+
+      into : (v : Value) (dh : Chain) (p : Procedure) → P (enter s dh v p)
       into v dh (formal x c) = tt
 
-      go : (p : Closure) → Gives (DoesAs ch (call n a b)) (calling sc s (eval s ch b) p)
-      go (closure k dh) =
-          gives-bind (DoesAs ch (call n a b)) _ _ (λ v. gives-bind (DoesAs ch (call n a b)) _ _ (λ p. into v dh p))
+      go : (v : Value) (p : Closure) → Gives P (calling sc s v p)
+      go v (closure k dh) = gives-bind P _ _ (λ p. into v dh p)
   exec-enters s ch (malloc n x) = gives-bind (DoesAs ch (malloc n x)) _ _ (λ k. tt)
   exec-enters s ch (assign n x e) =
       gives-bind (DoesAs ch (assign n x e)) _ _ (λ v. gives-bind (DoesAs ch (assign n x e)) _ _ (λ k. tt))
@@ -138,7 +140,7 @@ module _ (sc : Script) where
       → (s₁ : Store) (o₁ : Option Control)
       → step (miniOO sc) s t i ≡ goesTo s₁ o₁
       → EntersBlock (miniOO sc) s t i n ch
-  unfolding exec
+  unfolding execBy
   enters-if s t i n ch a s₁ o₁ e =
       let g : Goes (miniOO sc) s t i s₁ o₁ = goes-only (miniOO sc) s t i s₁ o₁ e in
       let d : RuleDoes sc s t i (g .effect) (g .leaves) = made-only sc s t i (g .effect) (g .leaves) (g .plans) .does in

@@ -1,7 +1,7 @@
 -- Document 01: "Zero means nothing as a tag, attribute code, field index, value kind, result, refusal or fault." For any
 -- bytes, any length of the workspace and any choices, the answer's numbers are those of the tables; in an accepted
 -- script no tag, code or field index is zero; and at every moment of its run neither is the kind of a value held, nor
--- the number of a stored fault, nor the tag of a command that can move. Assumes that the script is made of bytes.
+-- the tag of a command that can move. Assumes that the script is made of bytes.
 use Prim.Native.Nat.{ℕ, zero, suc, _<_, _≤_}
 use mathlib.Core.Path.{_≡_, refl, _∙_}
 use mathlib.Core.Option.{Option, none, some}
@@ -10,7 +10,7 @@ use native.Mathlib.Omega.{arith}
 use lib.ListN.{getElem?}
 use Rattle.rules.specs.declared.Chain.{Chain}
 use Rattle.rules.specs.declared.Value.{Value}
-use Rattle.rules.specs.declared.Value.the-variants.{Nothing, Null, Int, Field, Object, Proc, Fault}
+use Rattle.rules.specs.declared.Value.the-variants.{Nothing, Null, Int, Field, Object, Proc}
 use Rattle.rules.specs.declared.Verdict.{Verdict}
 use Rattle.rules.specs.declared.Verdict.the-variants.{Accepted, Refused}
 use Rattle.rules.specs.declared.Node.{Node}
@@ -30,7 +30,6 @@ use Rattle.safety.specs.Safe.{Real}
 use Rattle.safety.specs.Numbered.{ARefusal, OneTo, VerdictNumbered, accepted, refused, Numbered, refusal, ending}
 use Rattle.safety.specs.Found.{HeldIn}
 use Rattle.safety.proofs.NumberedOnly.{one-of-five}
-use Rattle.safety.proofs.NumberedRows.{fault-numbers}
 use Rattle.safety.proofs.Accepted.{accepted-fits}
 use Rattle.safety.proofs.Preserved.{ready-at, bare-given}
 use Rattle.safety.proofs.ReachesMoments as Moments
@@ -112,21 +111,17 @@ module _ (words : ℕ) (img : List ℕ) (are-bytes : Bytes img) (accepted : chec
       real : (v : Value) → HeldIn s v → Real (scriptOf img) s v
       real = Moments.held-real (scriptOf img) bare (bare-given (scriptOf img)) (rootOf img) choices (accepted-fits [] words img are-bytes accepted) s o a
 
-      pub no-kind-is-zero : (v : Value) → HeldIn s v → OneTo 6 (kindNo v)
+      pub no-kind-is-zero : (v : Value) → HeldIn s v → OneTo 5 (kindNo v)
       unfolding kindNo
       no-kind-is-zero v h = go v (real v h)
         where
-          go : (w : Value) → Real (scriptOf img) s w → OneTo 6 (kindNo w)
+          go : (w : Value) → Real (scriptOf img) s w → OneTo 5 (kindNo w)
           go Nothing r = absurd r
           go Null r = (omega arith, omega arith)
           go (Int b) r = (omega arith, omega arith)
           go (Field f) r = (omega arith, omega arith)
           go (Object k) r = (omega arith, omega arith)
           go (Proc n ch) r = (omega arith, omega arith)
-          go (Fault k) r = (omega arith, omega arith)
-
-      pub no-stored-fault-is-zero : (k : ℕ) → HeldIn s (Fault k) → OneTo 7 k
-      no-stored-fault-is-zero k h = fault-numbers k .0 (real (Fault k) h)
 
       pub no-held-field-is-zero : (f : ℕ) → HeldIn s (Field f) → OneTo (fieldsOf img) f
       unfolding scriptOf

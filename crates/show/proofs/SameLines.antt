@@ -7,7 +7,7 @@ use lib.ListN.{getD}
 use Rattle.rules.specs.declared.Value.{Value}
 use Rattle.rules.specs.declared.Frame.{Frame}
 use Rattle.words.specs.Decode.{valueOf}
-use Rattle.report.specs.Listing.{cellLine, fieldLine}
+use Rattle.listed.specs.Listing.{cellLine, fieldLine}
 use Rattle.text.specs.Written.{Line}
 use Rattle.rules.specs.Image.{mostFields}
 use Rattle.rules.specs.State.{objectsAt}

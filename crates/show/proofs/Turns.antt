@@ -11,7 +11,7 @@ use lib.Dec.{ltb}
 use borrow.Author.Tests.{ltb-true}
 use Rattle.words.specs.Layout.{frameCount, objectCount}
 use Rattle.rules.specs.Image.{fieldsOf, mostFields}
-use Rattle.report.specs.Listing.{rowLine, rowLines, cellLine, cellLines, fieldLine, fieldLines, objectLines}
+use Rattle.listed.specs.Listing.{rowLine, rowLines, cellLine, cellLines, fieldLine, fieldLines, objectLines}
 use Rattle.report.proofs.Growing.{rows-more, cells-more, fields-more, objects-more}
 use Rattle.text.specs.Written.{Wrote}
 use Rattle.text.proofs.WroteLaws.{none-wrote, more-wrote, wrote-as}

@@ -9,7 +9,7 @@ use Rattle.rules.specs.declared.End.{End}
 use Rattle.rules.specs.State.{Store}
 use Rattle.rules.specs.Run.{Ran}
 use Rattle.words.specs.Lent.{StepRow}
-use Rattle.report.specs.Listing.{headerLine, rowLines, endLine, cellLines, objectLines, runLines}
+use Rattle.listed.specs.Listing.{headerLine, rowLines, endLine, cellLines, objectLines, runLines}
 use Rattle.report.proofs.Growing.{flatten-append}
 use Rattle.text.specs.Written.{Wrote, Line}
 use Rattle.text.proofs.WroteLaws.{both-wrote, wrote-as}

@@ -11,7 +11,7 @@ use Rattle.rules.specs.declared.End.{End}
 use Rattle.rules.specs.Image.{fieldsOf, mostFields}
 use Rattle.words.specs.Lent.{StepRow}
 use Rattle.words.specs.Decode.{valueOf, frameOf}
-use Rattle.report.specs.Listing.{headerLine, rowLines, endLine, cellLines, objectLines}
+use Rattle.listed.specs.Listing.{headerLine, rowLines, endLine, cellLines, objectLines}
 use Rattle.rules.specs.State.{AnObject, object, mostFrames, mostObjects, objectsAt, framesAt}
 
 -- ---- one entry

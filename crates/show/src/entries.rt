@@ -7,7 +7,7 @@ use store::objects;
 use words::packing;
 ghost use Prim.Native.Nat.{_+_, _*_, _<_, _≤_};
 ghost use lib.ListN.{length};
-ghost use Rattle.report.specs.Listing.{rowLine, cellLine, fieldLine};
+ghost use Rattle.listed.specs.Listing.{rowLine, cellLine, fieldLine};
 ghost use Rattle.text.specs.Written.{Line};
 ghost use Rattle.rules.specs.Image.{mostFields};
 ghost use Rattle.rules.specs.State.{mostObjects, size, framesAt};

@@ -5,7 +5,7 @@ use rules::End;
 ghost use mathlib.Core.List.{flatten};
 ghost use Prim.Native.Nat.{_+_, _*_, _<_, _≤_};
 ghost use lib.ListN.{length};
-ghost use Rattle.report.specs.Listing.{rowLine, rowLines, endLine, cellLine, cellLines, fieldLine, fieldLines, objectLines};
+ghost use Rattle.listed.specs.Listing.{rowLine, rowLines, endLine, cellLine, cellLines, fieldLine, fieldLines, objectLines};
 ghost use Rattle.text.specs.Written.{Wrote};
 ghost use Rattle.rules.specs.Image.{mostFields};
 ghost use Rattle.rules.specs.State.{mostObjects, size, framesAt};

@@ -4,6 +4,7 @@
 //! seed: texts and lists as they are generated, missing, empty, as long as they may be and one byte longer, with and without an old image.
 //! `encoding` alone does what the program does, here.
 
+use flagcopper_tests::arguments::here_or_against;
 use flagcopper_tests::encoding::{encoding, LONGEST_LIST, LONGEST_TEXT, USAGE};
 use flagcopper_tests::generate::written::{case, Length};
 use flagcopper_tests::lanes::all_right;
@@ -253,26 +254,15 @@ fn compared(program: &str, cases: u64, seed: u64) -> Result<bool> {
     Ok(same)
 }
 
-fn main() -> ExitCode {
-    let arguments: Vec<String> = std::env::args().skip(1).collect();
-    match arguments.iter().map(String::as_str).collect::<Vec<_>>()[..] {
-        [] => {
-            let file = |name: &str| std::fs::read(name).ok();
-            let encoded = encoding(file(NAMES[0]).as_deref(), file(NAMES[1]).as_deref(), NAMES[2]);
-            if let Some(image) = encoded.image {
-                std::fs::write(NAMES[2], image).expect("the image can be written");
-            }
-            print!("{}", String::from_utf8_lossy(&encoded.printed));
-            ExitCode::SUCCESS
-        }
-        ["--against", program, "--cases", cases, "--seed", seed] => {
-            let (cases, seed) = (cases.parse().expect("a number of cases"), seed.parse().expect("a seed"));
-            let same = compared(program, cases, seed).expect("the program can be run");
-            ExitCode::from(u8::from(!same))
-        }
-        _ => {
-            eprintln!("encoding [--against PROGRAM --cases N --seed S]");
-            ExitCode::FAILURE
-        }
+fn encoded_here() {
+    let file = |name: &str| std::fs::read(name).ok();
+    let encoded = encoding(file(NAMES[0]).as_deref(), file(NAMES[1]).as_deref(), NAMES[2]);
+    if let Some(image) = encoded.image {
+        std::fs::write(NAMES[2], image).expect("the image can be written");
     }
+    print!("{}", String::from_utf8_lossy(&encoded.printed));
+}
+
+fn main() -> ExitCode {
+    here_or_against("encoding", encoded_here, compared)
 }

@@ -3,6 +3,7 @@
 //! `listing --against PROGRAM --cases N --seed S` compares another listing program, one for x86-64, with it on N cases, byte for byte;
 //! some cases lack a file or have choices that are too long.
 
+use flagcopper_tests::arguments::here_or_against;
 use flagcopper_tests::generate::case;
 use flagcopper_tests::independent::listing::listing;
 use flagcopper_tests::lanes::all_right;
@@ -59,20 +60,5 @@ fn compared(program: &str, cases: u64, seed: u64) -> std::io::Result<bool> {
 }
 
 fn main() -> ExitCode {
-    let arguments: Vec<String> = std::env::args().skip(1).collect();
-    match arguments.iter().map(String::as_str).collect::<Vec<_>>()[..] {
-        [] => {
-            print!("{}", here(Path::new(".")));
-            ExitCode::SUCCESS
-        }
-        ["--against", program, "--cases", cases, "--seed", seed] => {
-            let (cases, seed) = (cases.parse().expect("a number of cases"), seed.parse().expect("a seed"));
-            let same = compared(program, cases, seed).expect("the program can be run");
-            ExitCode::from(u8::from(!same))
-        }
-        _ => {
-            eprintln!("listing [--against PROGRAM --cases N --seed S]");
-            ExitCode::FAILURE
-        }
-    }
+    here_or_against("listing", || print!("{}", here(Path::new("."))), compared)
 }

@@ -6,6 +6,7 @@ use flagcopper_tests::assemble::{atom, parallel, skip, var, Branch};
 use flagcopper_tests::image::{Image, Node};
 use flagcopper_tests::independent::listing::listing;
 use flagcopper_tests::parse::script;
+use flagcopper_tests::stops::stops;
 use std::path::Path;
 
 struct Vector {
@@ -64,16 +65,14 @@ fn cases() -> Vec<Vector> {
     ]
 }
 
-/// Every kind of value in cells and fields, every fault, and the longest listings.
+/// Every kind of value in cells and fields, every fault, those that aren't stored, and the longest listings.
 fn values() -> Vec<Vector> {
-    let all = "fields c 12, f 700: var x; {malloc(x); {x.c = proc y: skip; {x.f = c; {x.c = x.c; \
-               {(proc z: skip)(null - 1); {x = -5; x.c = 1}}}}}}";
-    let stored = "fields f 7: var x; {malloc(x); {x.f = null - 1; x = x.f}}";
+    let all = "fields c 12, f 700, g 701: var x; {malloc(x); {x.c = proc y: skip; {x.f = c; {x.c = x.c; \
+               {x.g = x; {(proc z: skip)(null); {x = -5; x.c = 1}}}}}}}";
     let wide = "fields a 1, b 2, c 3, d 4, e 5, f 6, g 7, h 8, i 9, j 10, k 11, l 12, m 13, n 14, o 15, p 65535: \
                 var x; while true {malloc(x); x.p = x}";
     let mut vectors = vec![
         written("values", all, &zeros(20)),
-        written("stored_fault", stored, &zeros(9)),
         written("no_outer", "(proc y: skip)(proc y: skip)", &[0]),
         written("wide_objects", wide, &zeros(1_000)),
         written("longest", "while true skip", &zeros(4_096)),
@@ -90,6 +89,8 @@ fn values() -> Vec<Vector> {
     for (number, text) in (1..).zip(faults) {
         vectors.push(written(&format!("fault_{number}"), &format!("fields f 7: var x; {text}"), &zeros(9)));
     }
+    // the last choice is the one of the step that stops
+    vectors.extend(stops().iter().map(|stop| written(stop.name, &stop.text, &zeros(stop.steps + 1))));
     vectors
 }
 

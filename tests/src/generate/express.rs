@@ -6,24 +6,43 @@ use crate::assemble::*;
 const EXTREMES: [i32; 10] = [i32::MIN, i32::MIN + 1, -65_536, -32_768, -1, 1, 32_767, 65_535, 65_536, i32::MAX];
 
 impl Grower<'_> {
-    /// An expression that faults, whatever the names hold.
+    /// An expression that faults, whatever the names hold; the fault may stand further in.
     pub fn faulty(&mut self) -> Branch {
-        match self.random.below(5) {
+        match self.random.below(9) {
             0 => difference(null(), integer(1)),
             1 => difference(integer(i32::MIN), integer(1)),
             2 => difference(integer(-2), integer(i32::MAX)),
             3 => selection(null(), null()),
-            _ => selection(self.object(1), integer(0)),
+            4 | 5 => selection(self.object(1), integer(0)),
+            6 => difference(self.expression(Sort::Int, 0), self.faulty()),
+            7 => selection(self.faulty(), self.literal(Sort::Field)),
+            _ => selection(self.object(0), self.faulty()),
         }
     }
 
-    /// An argument or right side; it faults now and then, since that fault is stored.
-    pub fn stored(&mut self, sort: Sort) -> Branch {
-        if self.random.once_in(5) {
-            self.faulty()
-        } else {
-            self.expression(sort, 2)
-        }
+    /// A call whose argument faults; the callee's fault and 7 come before it.
+    pub fn faulty_call(&mut self) -> Branch {
+        let callee = match self.random.below(5) {
+            0 => self.faulty(),
+            1 => self.literal(Sort::Int),
+            _ => proc(self.name(), skip()),
+        };
+        call(callee, self.faulty())
+    }
+
+    /// A field assignment whose right side faults; the faults of the other two parts, 3 and 4 come before it.
+    pub fn faulty_field_assignment(&mut self) -> Branch {
+        let object = match self.random.below(6) {
+            0 => self.faulty(),
+            1 => null(),
+            _ => self.object(1),
+        };
+        let place = match self.random.below(6) {
+            0 => self.faulty(),
+            1 => null(),
+            _ => self.literal(Sort::Field),
+        };
+        field_assign(object, place, self.faulty())
     }
 
     /// What a selection or field assignment looks into: mostly a name that was given an object.
@@ -69,7 +88,7 @@ impl Grower<'_> {
         }
     }
 
-    fn literal(&mut self, sort: Sort) -> Branch {
+    pub fn literal(&mut self, sort: Sort) -> Branch {
         match sort {
             Sort::Int if self.random.once_in(4) => integer(self.random.pick(&EXTREMES)),
             Sort::Int => integer(self.random.below(7) as i32 - 2),

@@ -190,9 +190,12 @@ impl Grower<'_> {
     }
 
     fn call(&mut self) -> Branch {
+        if self.random.once_in(self.slips) {
+            return self.faulty_call();
+        }
         let callee = self.expression(Sort::Proc, 2);
         let sort = self.sort();
-        call(callee, self.stored(sort))
+        call(callee, self.expression(sort, 2))
     }
 
     fn malloc(&mut self) -> Branch {
@@ -209,7 +212,7 @@ impl Grower<'_> {
 
     fn field_assignment(&mut self) -> Branch {
         if self.random.once_in(self.slips) {
-            return field_assign(self.faulty(), self.faulty(), self.faulty());
+            return self.faulty_field_assignment();
         }
         if self.name_of(Sort::Object).is_none() {
             return self.assignment();
@@ -220,7 +223,7 @@ impl Grower<'_> {
             Some(index) if !self.random.once_in(self.slips) => field(index),
             _ => self.expression(Sort::Field, 1),
         };
-        field_assign(object, place, self.stored(sort))
+        field_assign(object, place, self.expression(sort, 2))
     }
 
     fn counting(&mut self) -> Branch {

@@ -3,7 +3,7 @@
 use super::grow::{Grower, Sort};
 use crate::assemble::*;
 
-/// Recursion that ends for room 1, with something done on the way.
+/// Recursion that ends for room 1, or for an argument that leaves 32 bits where frames run out, with something done on the way.
 pub fn calls_without_end(grower: &mut Grower) -> Branch {
     grower.budget = grower.random.below(20);
     grower.slips = 10_000;
@@ -14,8 +14,7 @@ pub fn calls_without_end(grower: &mut Grower) -> Branch {
         grower.under(formal, Sort::Int, |grower| {
             let argument = match grower.random.below(3) {
                 0 => variable(formal),
-                1 => difference(variable(formal), integer(1)),
-                _ => difference(null(), variable(formal)),
+                _ => difference(variable(formal), integer(1)),
             };
             let again = call(variable(name), argument);
             let work = grower.command();
@@ -29,7 +28,9 @@ pub fn calls_without_end(grower: &mut Grower) -> Branch {
             }
         })
     });
-    var(name, sequence(assign(name, proc(formal, body)), call(variable(name), integer(0))))
+    // From the lowest number and 1,022 the call that would leave 32 bits is the one for which there is no frame.
+    let start = grower.random.pick(&[0, 0, i32::MIN + 1_021, i32::MIN + 1_022, i32::MIN + 1_022, i32::MIN + 1_023]);
+    var(name, sequence(assign(name, proc(formal, body)), call(variable(name), integer(start))))
 }
 
 /// A loop that ends for room 1 or 2.
@@ -59,20 +60,25 @@ pub fn frames_or_objects_without_end(grower: &mut Grower) -> Branch {
     var(first, sequence(malloc(first), newer))
 }
 
-/// Control of about 255 parts, at the start or later.
+/// Control of about 255 parts, at the start or later; or it would be, if what is stored in the same step didn't fault.
 pub fn wide(grower: &mut Grower) -> Branch {
     let parts = grower.random.within(246, 258);
     let leaning = grower.random.below(4);
     let name = grower.name();
     grower.visible.push((name, Sort::Int));
     let command = of_parts(grower, parts, leaning);
-    let inner = match grower.random.below(8) {
+    let inner = match grower.random.below(10) {
         0 => sequence(skip(), command),
         1 => choose(constant(true), command, skip()),
         2 => repeat(constant(true), command),
         3 => atom(command),
         4 => call(proc(grower.name(), command), null()),
         5 => parallel(sequence(skip(), command), skip()),
+        6 => call(proc(grower.name(), command), grower.faulty()),
+        7 => {
+            let store = field_assign(variable(name), grower.literal(Sort::Field), grower.faulty());
+            sequence(malloc(name), sequence(store, command))
+        }
         _ => command,
     };
     grower.visible.pop();
@@ -123,11 +129,14 @@ fn pressed(grower: &mut Grower) -> Branch {
     let mut commands = grower.command();
     for _ in 0..grower.random.within(1, 3) {
         let (name, object) = (grower.name(), grower.name_of(Sort::Object));
-        let next = match grower.random.below(6) {
+        let next = match grower.random.below(9) {
             0 => call(null(), integer(0)),
             1 => call(grower.faulty(), integer(0)),
             2 => call(proc(name, skip()), grower.faulty()),
-            3 => var(name, skip()),
+            3 => grower.faulty_call(),
+            4 => grower.faulty_field_assignment(),
+            5 => atom(sequence(grower.faulty_call(), skip())),
+            6 => var(name, skip()),
             _ => object.map_or_else(skip, malloc),
         };
         commands = if grower.random.once_in(2) { sequence(next, commands) } else { parallel(next, commands) };

@@ -1,4 +1,4 @@
-//! Whole scripts, by theme: grown at random, close to the limits, deep, with long procedures to compare.
+//! Whole scripts, by theme: grown at random, close to the limits, deep, with long procedures to compare, with a fault to store.
 
 use super::grow::{Grower, Sort};
 use super::limits::{calls_without_end, frames_or_objects_without_end, to_the_brim, wide};
@@ -24,7 +24,7 @@ pub fn script(random: &mut Random) -> Themed {
     let slips = random.pick(&[5, 20, 60, 200]);
     let all = if weights.iter().all(|&weight| weight == 0) { [1; 13] } else { weights };
     let grower = &mut Grower { random, names, fields, visible: Vec::new(), budget, weights: all, slips };
-    let theme = grower.random.below(17);
+    let theme = grower.random.below(18);
     let far = matches!(theme, 0 | 1 | 4 | 8 | 9);
     let root = match theme {
         0 => calls_without_end(grower),
@@ -35,6 +35,7 @@ pub fn script(random: &mut Random) -> Themed {
         6..=7 => atoms(grower),
         8 => deep(grower),
         9 => to_the_brim(grower),
+        10 => faulting(grower),
         _ => grown(grower),
     };
     let root = if root.nodes() > MOST_NODES { skip() } else { root };
@@ -86,11 +87,8 @@ fn codes(random: &mut Random, fields: usize) -> Vec<u16> {
 
 /// The same script with its nodes in a random order that has children below parents.
 fn shuffled(random: &mut Random, image: &Image) -> Image {
-    let mut parents = vec![0; image.nodes.len()];
+    let parents = image.parents();
     let mut missing: Vec<usize> = image.nodes.iter().map(|&node| children(node).count()).collect();
-    for (number, &node) in image.nodes.iter().enumerate() {
-        children(node).for_each(|child| parents[child] = number);
-    }
     let mut ready: Vec<usize> = (0..missing.len()).filter(|&number| missing[number] == 0).collect();
     let mut order = Vec::new();
     while !ready.is_empty() {
@@ -125,6 +123,25 @@ fn atoms(grower: &mut Grower) -> Branch {
     let name = grower.name();
     let inner = grower.under(name, Sort::Int, |grower| parallel(grower.command(), grower.command()));
     var(name, sequence(assign(name, integer(0)), inner))
+}
+
+/// A call or a field assignment that has a fault to store, with something else around, beside or before it.
+fn faulting(grower: &mut Grower) -> Branch {
+    grower.slips = 200;
+    let name = grower.name();
+    let inner = grower.under(name, Sort::Object, |grower| {
+        let stops = if grower.random.once_in(2) { grower.faulty_call() } else { grower.faulty_field_assignment() };
+        let work = grower.command();
+        match grower.random.below(6) {
+            0 => sequence(work, stops),
+            1 => parallel(work, stops),
+            2 => parallel(stops, work),
+            3 => atom(sequence(work, stops)),
+            4 => parallel(atom(sequence(skip(), stops)), work),
+            _ => choose(grower.test(), stops, work),
+        }
+    });
+    var(name, sequence(malloc(name), inner))
 }
 
 /// Many declarations inside each other, with few names, around a grown command.

@@ -26,7 +26,6 @@ fn value_word(value: &Value) -> u64 {
         Value::Field(index) => (3, *index as u64),
         Value::Object(number) => (4, *number as u64),
         Value::Proc(proc, chain) => (5, placed(proc.at.0, chain)),
-        Value::Fault(number) => (6, u64::from(*number)),
     };
     kind + 8 * payload
 }

@@ -60,6 +60,5 @@ fn value(value: &Value, codes: &[u16]) -> String {
             Some(frame) => format!("proc {} {frame}", proc.at.0),
             None => format!("proc {} none", proc.at.0),
         },
-        Value::Fault(number) => format!("fault {number}"),
     }
 }

@@ -1,6 +1,6 @@
 -- `capi::say` meets its contract: each arm is a case of the definition. Assumes nothing.
 use Rattle.rules.specs.Numbers.{verdictNumbers}
-use Rattle.capi.specs.Told.{nowhere, numberIn, placeIn, verdictNo, checkedOf}
+use Rattle.told.specs.Told.{nowhere, numberIn, placeIn, verdictNo, checkedOf}
 use borrow.Author.Needs.{needs}
 use Rattle.capi.proofs.say.Statement.{statement}
 use Rattle.capi.proofs.say.Tie as tie

@@ -1,5 +1,5 @@
 -- `capi::tell` meets its contract: each arm is a case of the definition. Assumes nothing.
-use Rattle.capi.specs.Told.{nowhere, toldOf}
+use Rattle.told.specs.Told.{nowhere, toldOf}
 use borrow.Author.Needs.{needs}
 use Rattle.capi.proofs.tell.Statement.{statement}
 use Rattle.capi.proofs.tell.Tie as tie

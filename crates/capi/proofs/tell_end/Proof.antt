@@ -1,6 +1,6 @@
 -- `capi::tell_end` meets its contract: each arm is a case of the definition. Assumes nothing.
 use Rattle.rules.specs.Numbers.{endNo, endValues}
-use Rattle.capi.specs.Told.{nowhere, numberIn, placeIn, toldOf}
+use Rattle.told.specs.Told.{nowhere, numberIn, placeIn, toldOf}
 use borrow.Author.Needs.{needs}
 use Rattle.capi.proofs.tell_end.Statement.{statement}
 use Rattle.capi.proofs.tell_end.Tie as tie

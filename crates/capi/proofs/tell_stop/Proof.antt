@@ -1,6 +1,6 @@
 -- `capi::tell_stop` meets its contract: each arm is a case of the definition. Assumes nothing.
 use Rattle.rules.specs.Numbers.{endNo, endValues, stopNo, stopValues}
-use Rattle.capi.specs.Told.{nowhere, numberIn, placeIn, toldOf}
+use Rattle.told.specs.Told.{nowhere, numberIn, placeIn, toldOf}
 use borrow.Author.Needs.{needs}
 use Rattle.capi.proofs.tell_stop.Statement.{statement}
 use Rattle.capi.proofs.tell_stop.Tie as tie

@@ -1,5 +1,5 @@
 -- `capi::images::tell_text` meets its contract: each arm is a case of the definition. Assumes nothing.
-use Rattle.capi.specs.Images.{speltOf}
+use Rattle.told.specs.Images.{speltOf}
 use borrow.Author.Needs.{needs}
 use Rattle.capi.proofs.images.tell_text.Statement.{statement}
 use Rattle.capi.proofs.images.tell_text.Tie as tie

@@ -1,7 +1,7 @@
 -- `capi::written::flagcopper_read_words` meets its contract: the test is whether the sum is at most the largest number. Assumes nothing.
 use borrow.Author.Needs.{needs}
-use Rattle.capi.specs.Written.{largest}
-use Rattle.capi.proofs.Readings.{words-told, words-past-telling}
+use Rattle.told.specs.Written.{largest}
+use Rattle.told.proofs.Readings.{words-told, words-past-telling}
 use Rattle.capi.proofs.written.flagcopper_read_words.Statement.{statement}
 use Rattle.capi.proofs.written.flagcopper_read_words.Tie as tie
 

@@ -1,5 +1,5 @@
 -- `capi::written::tell_reading` meets its contract: each arm is a case of the definition. Assumes nothing.
-use Rattle.capi.specs.Written.{writtenOf}
+use Rattle.told.specs.Written.{writtenOf}
 use borrow.Author.Needs.{needs}
 use Rattle.capi.proofs.written.tell_reading.Statement.{statement}
 use Rattle.capi.proofs.written.tell_reading.Tie as tie

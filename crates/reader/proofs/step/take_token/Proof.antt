@@ -1,6 +1,6 @@
 -- `reader::step::take_token` meets its contract: the nodes of what is passed, then its own, and then the stack. Assumes nothing.
 use borrow.Author.Needs.{needs}
-use Rattle.reader.proofs.BuildLaws.{both-added}
+use Rattle.building.proofs.BuildLaws.{both-added}
 use Rattle.reader.proofs.step.take_token.Statement.{statement}
 use Rattle.reader.proofs.step.take_token.Tie as tie
 

@@ -5,7 +5,7 @@ use mathlib.Core.Path.{_≡_}
 use lib.ListN.{length}
 use Rattle.show.specs.Entries.{framesUpTo}
 use Rattle.text.specs.Written.{Wrote}
-use Rattle.report.specs.Listing.{cellLines}
+use Rattle.listed.specs.Listing.{cellLines}
 use Rattle.show.proofs.Turns.{counts-on, ends-at, ends-at-count, cells-none, cells-turn, cells-all}
 use borrow.Author.Needs.{needs}
 use Rattle.show.proofs.parts.put_cells.Statement.{statement}

@@ -5,7 +5,7 @@ use mathlib.Core.Path.{_≡_}
 use lib.ListN.{length}
 use Rattle.show.specs.Entries.{fieldsUpTo}
 use Rattle.text.specs.Written.{Wrote}
-use Rattle.report.specs.Listing.{fieldLines}
+use Rattle.listed.specs.Listing.{fieldLines}
 use Rattle.show.proofs.Turns.{counts-on, ends-at, ends-at-count, fields-none, fields-turn, fields-all}
 use borrow.Author.Needs.{needs}
 use Rattle.show.proofs.parts.put_object.Statement.{statement}

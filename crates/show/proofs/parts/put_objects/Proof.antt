@@ -5,7 +5,7 @@ use mathlib.Core.Path.{_≡_}
 use lib.ListN.{length}
 use Rattle.show.specs.Entries.{objectsUpTo}
 use Rattle.text.specs.Written.{Wrote}
-use Rattle.report.specs.Listing.{objectLines}
+use Rattle.listed.specs.Listing.{objectLines}
 use Rattle.show.proofs.Turns.{counts-on, ends-at, ends-at-count, objects-none, objects-turn, objects-all}
 use borrow.Author.Needs.{needs}
 use Rattle.show.proofs.parts.put_objects.Statement.{statement}

@@ -5,7 +5,7 @@ use mathlib.Core.Path.{_≡_}
 use lib.ListN.{length}
 use Rattle.show.specs.Entries.{rowsIn}
 use Rattle.text.specs.Written.{Wrote}
-use Rattle.report.specs.Listing.{rowLines}
+use Rattle.listed.specs.Listing.{rowLines}
 use Rattle.show.proofs.Turns.{rows-none, rows-turn, rows-all}
 use borrow.Author.Needs.{needs}
 use Rattle.show.proofs.parts.put_rows.Statement.{statement}

@@ -1,0 +1,3 @@
+pub mod BuildLaws
+pub mod PassedLaws
+pub mod FinishLaws

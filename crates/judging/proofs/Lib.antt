@@ -1,0 +1,3 @@
+pub mod WorthLaws
+pub mod DecideLaws
+pub mod JudgeLaws

@@ -1,0 +1,2 @@
+pub mod BeforeOrder2
+pub mod Compared

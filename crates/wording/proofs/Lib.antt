@@ -1,0 +1,5 @@
+pub mod WordLaws
+pub mod LineLaws
+pub mod CouldLaws
+pub mod SecondLaws
+pub mod Cases
