@@ -11,6 +11,7 @@ pub mod arguments;
 pub mod assemble;
 pub mod chart;
 pub mod compare;
+pub mod comparisons;
 pub mod encoding;
 pub mod flat;
 pub mod generate;
