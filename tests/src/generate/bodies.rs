@@ -23,13 +23,14 @@ enum Unlike {
     FirstLeaf,
     LastLeaf,
     Middle,
+    SecondOfThree,
     /// The two children of one node have changed places.
     Order,
 }
 
 /// So many children stand beside the nested ones, and one pair more waits at once: about 32, 256 and between.
 const SIDES: [usize; 24] =
-    [3, 12, 29, 30, 30, 30, 31, 31, 31, 32, 32, 32, 45, 58, 60, 254, 254, 255, 255, 256, 256, 257, 300, 490];
+    [3, 12, 29, 30, 30, 31, 31, 32, 32, 32, 33, 35, 40, 45, 50, 58, 254, 254, 255, 255, 256, 256, 300, 490];
 
 /// As many nodes as each of two bodies may have, so that there is room for what compares them.
 const MOST_OF_A_BODY: usize = MOST_NODES / 2 - 10;
@@ -51,9 +52,14 @@ pub fn long_bodies(grower: &mut Grower) -> Branch {
     let [one, other, formal] = [0, 1, 2].map(|next| grower.names + next);
     grower.names += 3;
     let nesting = [Nesting::First, Nesting::First, Nesting::Last, Nesting::Last, Nesting::Either, Nesting::All];
-    let unlike = [Unlike::FirstLeaf, Unlike::FirstLeaf, Unlike::LastLeaf, Unlike::LastLeaf, Unlike::Middle, Unlike::Order];
+    let leaves = [Unlike::FirstLeaf, Unlike::LastLeaf];
+    let others = [Unlike::Middle, Unlike::SecondOfThree, Unlike::Order];
     let nesting = grower.random.pick(&nesting);
-    let unlike = if grower.random.once_in(2) { Unlike::Nothing } else { grower.random.pick(&unlike) };
+    let unlike = match grower.random.below(4) {
+        0 => grower.random.pick(&leaves),
+        1 => grower.random.pick(&others),
+        _ => Unlike::Nothing,
+    };
     let (itself, in_a_loop, kept) = (grower.random.once_in(8), grower.random.once_in(3), grower.random.once_in(2));
     let plain = grower.random.once_in(2);
     let maker = &mut Maker { grower, formal, plain, bodies: if itself { 1 } else { 2 } };
@@ -77,7 +83,7 @@ pub fn long_bodies(grower: &mut Grower) -> Branch {
         }
         (false, false) => var(one, compared(first, second)),
     };
-    let nodes = grower.random.pick(&[0, 255, 256, 257, 255, 256, 257, MOST_NODES - 1, MOST_NODES]);
+    let nodes = grower.random.pick(&[0, 255, 255, 256, 256, 257, 257, MOST_NODES - 1, MOST_NODES]);
     filled(root, nodes)
 }
 
@@ -173,18 +179,20 @@ impl Maker<'_, '_> {
 
     /// The body, unlike itself in what is wanted where there is such a place.
     fn unlike(&mut self, mut body: Branch, unlike: Unlike) -> Branch {
-        let leaves: Vec<bool> = body.all().iter().map(|node| node.is_leaf()).collect();
-        let last = leaves.len() - 1;
-        let first_leaf = leaves.iter().position(|leaf| *leaf).unwrap_or(last);
-        let start = self.grower.random.below(leaves.len());
-        let others = (start..last).chain(0..start).filter(|place| *place != first_leaf);
+        let all = body.all();
+        let last = all.len() - 1;
+        let first_leaf = all.iter().position(|node| node.is_leaf()).unwrap_or(last);
+        let seconds: Vec<usize> = all.iter().enumerate().filter_map(|(at, node)| second_of_three(at, node)).collect();
+        let start = self.grower.random.below(all.len());
+        let from_start = || (start..last).chain(0..start);
         let mut change = |place: usize| body.at(place).is_some_and(|node| self.changed(node));
         match unlike {
             Unlike::Nothing => false,
             Unlike::FirstLeaf => change(first_leaf),
             Unlike::LastLeaf => change(last),
-            Unlike::Middle => others.into_iter().any(change),
-            Unlike::Order => (start..last).chain(0..start).any(|place| body.at(place).is_some_and(exchanged)),
+            Unlike::Middle => from_start().filter(|place| *place != first_leaf).any(change),
+            Unlike::SecondOfThree => from_start().filter(|place| seconds.contains(place)).any(change),
+            Unlike::Order => from_start().any(|place| body.at(place).is_some_and(exchanged)),
         };
         body
     }
@@ -216,6 +224,14 @@ impl Maker<'_, '_> {
         };
         node.tag = tag;
         true
+    }
+}
+
+/// The place of the second child of a node at a place, in `all`, where it has three.
+fn second_of_three(at: usize, node: &Branch) -> Option<usize> {
+    match &node.words[..] {
+        [Operand::Child(first), Operand::Child(_), Operand::Child(_)] => Some(at + 1 + first.nodes()),
+        _ => None,
     }
 }
 

@@ -26,8 +26,8 @@ pub fn script(random: &mut Random) -> Themed {
     let slips = random.pick(&[5, 20, 60, 200]);
     let all = if weights.iter().all(|&weight| weight == 0) { [1; 13] } else { weights };
     let grower = &mut Grower { random, names, fields, visible: Vec::new(), budget, weights: all, slips };
-    let theme = grower.random.below(20);
-    let far = matches!(theme, 0 | 1 | 4 | 8 | 9 | 11 | 12);
+    let theme = grower.random.below(21);
+    let far = matches!(theme, 0 | 1 | 4 | 8 | 9 | 11..=13);
     let root = match theme {
         0 => calls_without_end(grower),
         1 => frames_or_objects_without_end(grower),
@@ -38,7 +38,7 @@ pub fn script(random: &mut Random) -> Themed {
         8 => deep(grower),
         9 => to_the_brim(grower),
         10 => faulting(grower),
-        11..=12 => long_bodies(grower),
+        11..=13 => long_bodies(grower),
         _ => grown(grower),
     };
     let root = if root.nodes() > MOST_NODES { skip() } else { root };
