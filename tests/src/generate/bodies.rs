@@ -197,32 +197,25 @@ impl Maker<'_, '_> {
         body
     }
 
-    /// Makes another node of it with the same children, if there is one that may stand there.
+    /// Makes another node of it with the same children, where there is one that may stand there.
     fn changed(&mut self, node: &mut Branch) -> bool {
-        let random = &mut self.grower.random;
-        let tag = match node.tag {
-            2 => {
-                let half = random.below(2);
-                if let Operand::Number(number) = &mut node.words[half] {
-                    *number ^= 1 << random.below(16);
-                }
-                return true;
+        let (random, names) = (&mut self.grower.random, self.grower.names);
+        match (node.tag, &mut node.words[..]) {
+            (1 | 5, _) => *node = null(),
+            (4, _) => *node = variable(self.formal),
+            (34, _) => *node = skip(),
+            (37, _) => *node = malloc(self.formal),
+            (2, [Operand::Number(low), Operand::Number(high)]) => {
+                let half = if random.once_in(2) { low } else { high };
+                *half ^= 1 << random.below(16);
             }
-            7 | 32 => {
-                let name = Operand::Number(self.grower.name());
-                return std::mem::replace(&mut node.words[0], name) != node.words[0];
-            }
-            1 | 5 => return std::mem::replace(node, null()).tag != node.tag,
-            4 => return std::mem::replace(node, variable(self.formal)).tag != node.tag,
-            34 => return std::mem::replace(node, skip()).tag != node.tag,
-            37 => return std::mem::replace(node, malloc(self.formal)).tag != node.tag,
-            3 | 6 => 9 - node.tag,
-            16 | 17 => 33 - node.tag,
-            18 | 19 => 37 - node.tag,
-            38 | 41 => 79 - node.tag,
+            (7 | 32, [Operand::Number(name), _]) => *name = (*name + 1) % names,
+            (3 | 6, _) => node.tag = 3 + 6 - node.tag,
+            (16 | 17, _) => node.tag = 16 + 17 - node.tag,
+            (18 | 19, _) => node.tag = 18 + 19 - node.tag,
+            (38 | 41, _) => node.tag = 38 + 41 - node.tag,
             _ => return false,
-        };
-        node.tag = tag;
+        }
         true
     }
 }
