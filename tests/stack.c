@@ -15,7 +15,7 @@ static unsigned nodes;
 static uint64_t workspace[FLAGCOPPER_SIZE];
 static flagcopper_checked checked;
 static flagcopper_told told;
-static int deep; /* a run took more stack because it compares */
+static int comparing_shows; /* a run took more stack because it compares */
 
 static void put(size_t at, unsigned word) {
     script[at] = (uint8_t)(word & 255);
@@ -170,7 +170,7 @@ static void report_comparison(const char *shape, const char *what, unsigned of) 
     printf("the run of %s of %u nodes each, %s, %u nodes: %zu bytes, the check %zu, without a step %zu; end %u steps %zu%s\n",
            what, of, shape, nodes, used, check_used, start_used, (unsigned)told.end, told.steps,
            used > start_used ? ": MORE THAN ITS CHECK" : "");
-    deep |= used > start_used;
+    comparing_shows |= used > start_used;
 }
 
 /* Two procedures with the same body are compared, in the first step: if proc y: BODY == proc y: BODY skip else skip */
@@ -243,5 +243,5 @@ int main(void) {
     run_of_sequences(254); /* as many as fit */
     run_of_sequences((NODES - 1) / 2);
     run_of_parallel();
-    return deep ? EXIT_FAILURE : EXIT_SUCCESS;
+    return comparing_shows ? EXIT_FAILURE : EXIT_SUCCESS;
 }
