@@ -1,5 +1,6 @@
 /* How much stack the check and a run use: each is called on a stack of its own, filled with a pattern, and the lowest byte
- * that it wrote counts. It ends with 1 when a run takes more stack because it compares long bodies (order 3 of document 02).
+ * that it wrote counts. It ends with 1 when a run takes more stack because it compares long bodies (order 3 of document 02), or
+ * doesn't come to compare them.
  * Built and run in the repository's root after `rt staticlib capi`, in less than a second:
  *     tests/x86 build target/stack tests/stack.c && tests/x86 run target/stack */
 #include "flagcopper.h"
@@ -15,7 +16,7 @@ static unsigned nodes;
 static uint64_t workspace[FLAGCOPPER_SIZE];
 static flagcopper_checked checked;
 static flagcopper_told told;
-static int comparing_shows; /* a run took more stack because it compares */
+static int comparing_shows; /* a run took more stack because it compares, or it doesn't compare */
 
 static void put(size_t at, unsigned word) {
     script[at] = (uint8_t)(word & 255);
@@ -167,10 +168,10 @@ static void run_of_expression(const char *what, unsigned tag, unsigned leaf, int
 /* A run that compares, beside its check alone and the run that only checks: what a step takes must fit in what the check had. */
 static void report_comparison(const char *shape, const char *what, unsigned of) {
     size_t check_used = used_by(check), start_used = used_by(start), used = used_by(run);
-    printf("the run of %s of %u nodes each, %s, %u nodes: %zu bytes, the check %zu, without a step %zu; end %u steps %zu%s\n",
+    printf("the run of %s of %u nodes, %s, %u nodes: %zu bytes, the check %zu, without a step %zu; end %u steps %zu%s\n",
            what, of, shape, nodes, used, check_used, start_used, (unsigned)told.end, told.steps,
            used > start_used ? ": MORE THAN ITS CHECK" : "");
-    comparing_shows |= used > start_used;
+    comparing_shows |= used > start_used || told.refusal != 0 || told.steps != 2;
 }
 
 /* Two procedures with the same body are compared, in the first step: if proc y: BODY == proc y: BODY skip else skip */

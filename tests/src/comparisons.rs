@@ -33,6 +33,8 @@ pub struct Comparison {
     /// The nodes of the first body, and how many there are from its root to the deepest one.
     pub nodes: usize,
     pub depth: usize,
+    /// The lower of the two bodies' node numbers.
+    pub lower: usize,
     /// The tags in the first body.
     pub tags: BTreeSet<u16>,
     /// The most pairs that wait at once, where first children are taken first and where last ones are.
@@ -88,6 +90,7 @@ fn comparison(a: &Proc, b: &Proc, in_a_loop: bool) -> Comparison {
         in_a_loop,
         nodes: one.len(),
         depth: depth(&a.body),
+        lower: usize::from(a.body.at.0.min(b.body.at.0)),
         tags: one.iter().map(|((tag, _), _)| *tag).collect(),
         waited: walks.map(|walk| walk.waited),
         would_wait: by_pairs(a, a).map(|walk| walk.waited),

@@ -56,6 +56,7 @@ fn met(comparison: &Comparison, image: &Image) -> Vec<String> {
         for store in [32, 256].into_iter().filter(|store| waited > *store) {
             met.push(format!("over {store} wait in {order} order: {answer}"));
             met.push(format!("over {store} wait in {} nodes, {taken} child taken: {answer}", image.nodes.len()));
+            met.push(format!("over {store} wait below node {}: {answer}", comparison.lower));
         }
     }
     met
@@ -75,7 +76,7 @@ fn counted() -> BTreeMap<String, usize> {
 }
 
 /// All that must be met: every way to nest with everything in which bodies can be unlike, and with both answers the numbers
-/// of pairs around the stores' limits, whichever child is taken first, and the numbers of nodes.
+/// of pairs around the stores' limits, whichever child is taken first, the numbers of nodes, and the body's own.
 fn wanted() -> Vec<String> {
     let mut wanted: Vec<String> = Vec::new();
     for nesting in ["to the left", "to the right", "either way", "evenly"] {
@@ -91,6 +92,7 @@ fn wanted() -> Vec<String> {
         for store in [32, 256] {
             wanted.extend(["the encoder's", "another"].map(|o| format!("over {store} wait in {o} order: {answer}")));
         }
+        wanted.extend([254, 256].map(|lower| format!("over 32 wait below node {lower}: {answer}")));
         for taken in ["first", "last"] {
             let taken = format!("{taken} child taken: {answer}");
             wanted.extend([31, 32, 33, 255, 256, 257].map(|waited| format!("{waited} wait, {taken}")));

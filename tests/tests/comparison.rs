@@ -5,6 +5,7 @@ use flagcopper_tests::compare::{difference, search};
 use flagcopper_tests::generate::Case;
 use flagcopper_tests::independent::{Independent, Wrong};
 use flagcopper_tests::parse::script;
+use flagcopper_tests::readback::{frame, Value};
 use flagcopper_tests::shrink::{read, shrunk, written};
 use flagcopper_tests::stops::{stops, Stop};
 use flagcopper_tests::subject::{subjects, Subject, SIZE};
@@ -57,13 +58,17 @@ fn each_wrong_turn_of_order_2_on_its_worked_scripts() {
 }
 
 /// The worked scripts of order 3 on which a wrong turn gives another answer.
-fn likened_by(wrong: Wrong) -> Vec<&'static str> {
+fn answered_otherwise_by(wrong: Wrong) -> Vec<&'static str> {
     let answers = |text: &str| {
         let mut workspace = vec![0; SIZE];
         Independent::wrong(wrong).run(&script(text).bytes(), &[0; STEPS], &mut workspace);
-        (workspace[3] % (1 << 35) / 8) as i32
+        frame(workspace[3]).map(|frame| frame.cell)
     };
-    bodies().iter().filter(|bodies| answers(&bodies.text) != bodies.answer).map(|bodies| bodies.name).collect()
+    bodies()
+        .iter()
+        .filter(|bodies| answers(&bodies.text) != Some(Value::Int(bodies.answer)))
+        .map(|bodies| bodies.name)
+        .collect()
 }
 
 /// The first child's pair is taken first; of three children there are none.
@@ -72,12 +77,12 @@ fn each_wrong_turn_of_order_3_on_its_worked_scripts() {
     let equal = ["left_bodies_equal", "right_bodies_equal"];
     let left = ["left_bodies_last_leaf", "left_bodies_first_leaf"];
     let right = ["right_bodies_last_leaf", "right_bodies_first_leaf"];
-    assert_eq!(likened_by(Wrong::LastPairForgotten), [left, right].concat());
-    assert_eq!(likened_by(Wrong::MiddleOfThreeForgotten), [""; 0]);
-    assert_eq!(likened_by(Wrong::ChildrenCrossed), equal);
-    assert_eq!(likened_by(Wrong::FullIsAlike), left);
-    assert_eq!(likened_by(Wrong::FullIsUnlike), equal[..1]);
-    assert_eq!(likened_by(Wrong::FullForgets), left[1..]);
+    assert_eq!(answered_otherwise_by(Wrong::LastPairForgotten), [left, right].concat());
+    assert_eq!(answered_otherwise_by(Wrong::MiddleOfThreeForgotten), [""; 0]);
+    assert_eq!(answered_otherwise_by(Wrong::ChildrenCrossed), equal);
+    assert_eq!(answered_otherwise_by(Wrong::FullIsAlike), left);
+    assert_eq!(answered_otherwise_by(Wrong::FullIsUnlike), equal[..1]);
+    assert_eq!(answered_otherwise_by(Wrong::FullForgets), left[1..]);
 }
 
 /// Document 01: a body run in the caller's chain makes case e give 6.

@@ -1,5 +1,5 @@
-//! Whole scripts, by theme: grown at random, close to the limits, deep, with long procedures and long bodies to compare, with a fault to
-//! store.
+//! Whole scripts, by theme: grown at random, close to the limits, deep, with long procedures and long bodies to compare, with a fault in
+//! an argument or a right side.
 
 use super::bodies::long_bodies;
 use super::grow::{Grower, Sort};
@@ -128,7 +128,7 @@ fn atoms(grower: &mut Grower) -> Branch {
     var(name, sequence(assign(name, integer(0)), inner))
 }
 
-/// A call or a field assignment that has a fault to store, with something else around, beside or before it.
+/// A call or a field assignment whose argument or right side faults, with something else around, beside or before it.
 fn faulting(grower: &mut Grower) -> Branch {
     grower.slips = 200;
     let name = grower.name();
