@@ -95,8 +95,8 @@ fn wanted() -> Vec<String> {
         wanted.extend([254, 256].map(|lower| format!("over 32 wait below node {lower}: {answer}")));
         for taken in ["first", "last"] {
             let taken = format!("{taken} child taken: {answer}");
-            wanted.extend([31, 32, 33, 255, 256, 257].map(|waited| format!("{waited} wait, {taken}")));
-            wanted.extend([255, 256, 257, 2_047, 2_048].map(|nodes| format!("over 32 wait in {nodes} nodes, {taken}")));
+            wanted.extend([16, 17, 31, 32, 33, 64, 65, 255, 256, 257].map(|waited| format!("{waited} wait, {taken}")));
+            wanted.extend([2_047, 2_048].map(|nodes| format!("over 32 wait in {nodes} nodes, {taken}")));
         }
     }
     wanted

@@ -1,6 +1,7 @@
 //! Long bodies to compare, order 3 of document 02: nested to the left, to the right, either way or evenly, alike or unlike in one place.
-//! The library keeps pairs of nodes that wait to be compared in a store of 32 and, where these are full, of 256 or 2,048, by
-//! whether the body with the lower number is a node below 256: the sizes lie around these numbers.
+//! The library keeps pairs of nodes that wait to be compared in a store of 16 and, where these are full, of 64 and 256, or of 256
+//! and 2,048, by whether the body with the lower number is a node below 256: the sizes lie around these numbers, and around 32, at
+//! which wrong turns of the independent interpreter go wrong.
 
 use super::grow::Grower;
 use super::themes::{filled, MOST_NODES};
@@ -28,11 +29,11 @@ enum Unlike {
     Order,
 }
 
-/// So many children stand beside the nested ones, and one pair more waits at once: about 32, 256 and between; with 127 and 128 the
-/// body itself is node 254 or 256, where nothing stands before it.
-const SIDES: [usize; 29] = [
-    3, 12, 29, 30, 30, 31, 31, 32, 32, 32, 33, 35, 40, 45, 50, 58, 127, 127, 128, 128, 128, 254, 254, 255, 255, 256,
-    256, 300, 490,
+/// So many children stand beside the nested ones, and one pair more waits at once: about 16, 32, 64, 256 and between; with 127 and 128
+/// the body itself is node 254 or 256, where nothing stands before it.
+const SIDES: [usize; 32] = [
+    3, 15, 16, 29, 30, 30, 31, 31, 32, 32, 32, 33, 45, 62, 63, 64, 64, 127, 127, 127, 128, 128, 128, 254, 254, 255,
+    255, 255, 256, 256, 300, 490,
 ];
 
 /// As many nodes as each of two bodies may have, so that there is room for what compares them.
