@@ -132,11 +132,45 @@ impl Branch {
 
     /// The number of its nodes.
     pub fn nodes(&self) -> usize {
-        let child = |word: &Operand| match word {
-            Operand::Number(_) => 0,
-            Operand::Child(child) => child.nodes(),
-        };
-        1 + self.words.iter().map(child).sum::<usize>()
+        1 + self.children().map(Branch::nodes).sum::<usize>()
+    }
+
+    fn children(&self) -> impl Iterator<Item = &Branch> {
+        self.words.iter().filter_map(|word| match word {
+            Operand::Number(_) => None,
+            Operand::Child(child) => Some(child),
+        })
+    }
+
+    pub fn is_leaf(&self) -> bool {
+        self.children().next().is_none()
+    }
+
+    /// This node and those below, parents before children, left before right.
+    pub fn all(&self) -> Vec<&Branch> {
+        let (mut all, mut open) = (Vec::new(), vec![self]);
+        while let Some(node) = open.pop() {
+            all.push(node);
+            let below = open.len();
+            open.extend(node.children());
+            open[below..].reverse();
+        }
+        all
+    }
+
+    /// The node at a place of `all`, to be changed.
+    pub fn at(&mut self, place: usize) -> Option<&mut Branch> {
+        fn found<'a>(node: &'a mut Branch, left: &mut usize) -> Option<&'a mut Branch> {
+            if *left == 0 {
+                return Some(node);
+            }
+            *left -= 1;
+            node.words.iter_mut().find_map(|word| match word {
+                Operand::Number(_) => None,
+                Operand::Child(child) => found(child, left),
+            })
+        }
+        found(self, &mut { place })
     }
 
     /// The numbers in this node and below, each with the tag of its node, to be changed.

@@ -3,14 +3,17 @@
 //! generated, damaged and arbitrary. And the same for the reading of written scripts, order 1 of document 02.
 //!
 //! Reading order: `subject` (what is compared), `image`, `assemble` and `parse` (scripts), `independent` (the reference),
-//! `flat` (the measure of speed), `generate`, `search`, `compare` and `shrink`; `readback` (the state in the words of a run). For written
+//! `flat` (the measure of speed), `generate`, `search`, `compare` and `shrink`; `readback` (the state in the words of a run); `stops` and
+//! `bodies` (scripts by hand of orders 2 and 3), `comparisons` (what a run compares). For written
 //! scripts `written` (the reference), `chart` (the second opinion), `generate::written` and `reading` (their comparison), `worked` (texts by hand)
 //! and `encoding` (what the program `encode` prints).
 
 pub mod arguments;
 pub mod assemble;
+pub mod bodies;
 pub mod chart;
 pub mod compare;
+pub mod comparisons;
 pub mod encoding;
 pub mod flat;
 pub mod generate;

@@ -1,6 +1,7 @@
-//! The scripts tried by hand (document 01, a to o), those of order 2, and the listing's example, on every subject.
+//! The scripts tried by hand (document 01, a to o), those of orders 2 and 3, and the listing's example, on every subject.
 
 use flagcopper_tests::assemble::{parallel, skip, Branch};
+use flagcopper_tests::bodies::{bodies, Bodies, STEPS};
 use flagcopper_tests::image::Image;
 use flagcopper_tests::independent::listing::listing;
 use flagcopper_tests::parse::script;
@@ -174,6 +175,18 @@ fn room_comes_after_a_fault_to_store() {
         let text = text.replace("null - 1", "0 - 1").replace("-2147482626", "-2147482625");
         let room = room.parse().expect("a number of room");
         wants(&script(&text), &zeros(steps + 1), (3, room), steps, frames, objects);
+    }
+}
+
+#[test]
+fn long_bodies_compared() {
+    for Bodies { name, text, answer } in bodies() {
+        println!("{name}");
+        let image = script(&text);
+        assert_eq!(image.nodes.len(), 2 * 1_000 + 9);
+        for run in wants(&image, &zeros(STEPS), DONE, STEPS, 1, 0) {
+            assert_eq!(run.cell(0), int(answer));
+        }
     }
 }
 

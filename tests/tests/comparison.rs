@@ -1,8 +1,11 @@
 //! The comparison finds nothing between the right ones, tells each wrong turn apart, and its cases reach every answer.
 
+use flagcopper_tests::bodies::{bodies, STEPS};
 use flagcopper_tests::compare::{difference, search};
+use flagcopper_tests::generate::Case;
 use flagcopper_tests::independent::{Independent, Wrong};
 use flagcopper_tests::parse::script;
+use flagcopper_tests::readback::{frame, Value};
 use flagcopper_tests::shrink::{read, shrunk, written};
 use flagcopper_tests::stops::{stops, Stop};
 use flagcopper_tests::subject::{subjects, Subject, SIZE};
@@ -18,14 +21,12 @@ fn every_wrong_turn_is_told_apart() {
         let (right, subject) = (Independent::right(), Independent::wrong(wrong));
         let (tally, found) = search(&right, &subject, SEED, 0..ENOUGH, |_| {});
         let found = found.unwrap_or_else(|| panic!("{wrong:?} looks right on {tally}"));
-        let least = shrunk(&found.case, |case| difference(&right, &subject, case).is_some());
+        // a long script takes its time to shrink, and two equal bodies don't
+        let differs = |case: &Case| case.script.len() < 4_000 && difference(&right, &subject, case).is_some();
+        let case = found.case;
+        let least = if differs(&case) { shrunk(&case, differs) } else { case.clone() };
         let how = difference(&right, &subject, &least).expect("shrinking keeps the difference");
-        println!(
-            "{wrong:?}: case {}, {} to {} bytes, {how}",
-            found.number,
-            found.case.script.len(),
-            least.script.len()
-        );
+        println!("{wrong:?}: case {}, {} to {} bytes, {how}", found.number, case.script.len(), least.script.len());
         assert_eq!(read(&written(&least, &how)), Some(least));
     }
 }
@@ -54,6 +55,34 @@ fn each_wrong_turn_of_order_2_on_its_worked_scripts() {
     for wrong in [Wrong::FaultIsNull, Wrong::FaultIsStored, Wrong::FaultAtTheCommand] {
         assert_eq!(told_apart_by(wrong), [&plain[..], &frames, &control].concat(), "{wrong:?}");
     }
+}
+
+/// The worked scripts of order 3 on which a wrong turn gives another answer.
+fn answered_otherwise_by(wrong: Wrong) -> Vec<&'static str> {
+    let answers = |text: &str| {
+        let mut workspace = vec![0; SIZE];
+        Independent::wrong(wrong).run(&script(text).bytes(), &[0; STEPS], &mut workspace);
+        frame(workspace[3]).map(|frame| frame.cell)
+    };
+    bodies()
+        .iter()
+        .filter(|bodies| answers(&bodies.text) != Some(Value::Int(bodies.answer)))
+        .map(|bodies| bodies.name)
+        .collect()
+}
+
+/// The first child's pair is taken first; of three children there are none.
+#[test]
+fn each_wrong_turn_of_order_3_on_its_worked_scripts() {
+    let equal = ["left_bodies_equal", "right_bodies_equal"];
+    let left = ["left_bodies_last_leaf", "left_bodies_first_leaf"];
+    let right = ["right_bodies_last_leaf", "right_bodies_first_leaf"];
+    assert_eq!(answered_otherwise_by(Wrong::LastPairForgotten), [left, right].concat());
+    assert_eq!(answered_otherwise_by(Wrong::MiddleOfThreeForgotten), [""; 0]);
+    assert_eq!(answered_otherwise_by(Wrong::ChildrenCrossed), equal);
+    assert_eq!(answered_otherwise_by(Wrong::FullIsAlike), left);
+    assert_eq!(answered_otherwise_by(Wrong::FullIsUnlike), equal[..1]);
+    assert_eq!(answered_otherwise_by(Wrong::FullForgets), left[1..]);
 }
 
 /// Document 01: a body run in the caller's chain makes case e give 6.

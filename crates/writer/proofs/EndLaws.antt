@@ -18,7 +18,7 @@ use Rattle.rules.specs.Image.{tags, rowOf, kindOf, halves, expOf, makeBy, nodes
 use Rattle.rules.proofs.Trees.{expAt, lower, treeAt-is, tree-int, tree-diff, tree-select, tree-proc}
 use Rattle.rules.proofs.GoodFacts.{Good, GoodRow}
 use Rattle.rules.proofs.TreeKinds.{_&_, tag-cases, exp-cases, is-exp}
-use Rattle.evallaws.proofs.SameTables.{tree-made}
+use Rattle.treelaws.proofs.SameTables.{tree-made}
 use Rattle.image.specs.Read.{NodeRead}
 use Rattle.grammar.specs.Grammar.{Ending, closed}
 use Rattle.writing.specs.WriteTokens.{topOf, isDifference, isSelection, isBare, notDotted, endOf, opensLeft, opensDot, signed, writeExp}

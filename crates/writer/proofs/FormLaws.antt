@@ -11,7 +11,7 @@ use Rattle.rules.specs.Image.{Tree, tags, rowOf, kindOf, halves, expOf, testOf,
 use Rattle.rules.proofs.Trees.{expAt, testAt, tree-int}
 use Rattle.rules.proofs.GoodFacts.{Good, GoodRow}
 use Rattle.rules.proofs.TreeKinds.{_&_, tag-cases, is-exp, is-test, is-cmd}
-use Rattle.evallaws.proofs.SameTables.{tree-made}
+use Rattle.treelaws.proofs.SameTables.{tree-made}
 use Rattle.grammar.specs.Grammar.{Ended, anOperand, noOperand}
 use Rattle.writing.specs.WriteTokens.{grouped, writeInt, writeExp, writeTest, writeBehind, endedBy}
 use Rattle.pen.specs.Behind.{markOf}

@@ -3,6 +3,7 @@
 //! DIRECTORY/stdout. docs/VECTORS.md says what each vector is for.
 
 use flagcopper_tests::assemble::{atom, parallel, skip, var, Branch};
+use flagcopper_tests::bodies::{bodies, STEPS};
 use flagcopper_tests::image::{Image, Node};
 use flagcopper_tests::independent::listing::listing;
 use flagcopper_tests::parse::script;
@@ -65,7 +66,7 @@ fn cases() -> Vec<Vector> {
     ]
 }
 
-/// Every kind of value in cells and fields, every fault, those that aren't stored, and the longest listings.
+/// Every kind of value in cells and fields, every fault, those that aren't stored, the longest listings, and long bodies compared.
 fn values() -> Vec<Vector> {
     let all = "fields c 12, f 700, g 701: var x; {malloc(x); {x.c = proc y: skip; {x.f = c; {x.c = x.c; \
                {x.g = x; {(proc z: skip)(null); {x = -5; x.c = 1}}}}}}}";
@@ -91,6 +92,7 @@ fn values() -> Vec<Vector> {
     }
     // the last choice is the one of the step that stops
     vectors.extend(stops().iter().map(|stop| written(stop.name, &stop.text, &zeros(stop.steps + 1))));
+    vectors.extend(bodies().iter().map(|bodies| written(bodies.name, &bodies.text, &zeros(STEPS))));
     vectors
 }
 

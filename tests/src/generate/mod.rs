@@ -1,6 +1,7 @@
 //! Cases made from a seed: well-formed scripts biased to what is interesting, damaged images, arbitrary bytes, and the
 //! choices, the workspace and the rows that go with them.
 
+mod bodies;
 mod choices;
 mod damage;
 mod express;

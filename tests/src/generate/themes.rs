@@ -1,12 +1,14 @@
-//! Whole scripts, by theme: grown at random, close to the limits, deep, with long procedures to compare, with a fault to store.
+//! Whole scripts, by theme: grown at random, close to the limits, deep, with long procedures and long bodies to compare, with a fault in
+//! an argument or a right side.
 
+use super::bodies::long_bodies;
 use super::grow::{Grower, Sort};
 use super::limits::{calls_without_end, frames_or_objects_without_end, to_the_brim, wide};
 use crate::assemble::*;
 use crate::image::{children, row, Image, Word};
 use crate::random::Random;
 
-const MOST_NODES: usize = 2_048;
+pub const MOST_NODES: usize = 2_048;
 const MOST_NAMES: u16 = 128;
 
 /// A well-formed script, and whether it takes many steps to get where it is interesting.
@@ -24,8 +26,8 @@ pub fn script(random: &mut Random) -> Themed {
     let slips = random.pick(&[5, 20, 60, 200]);
     let all = if weights.iter().all(|&weight| weight == 0) { [1; 13] } else { weights };
     let grower = &mut Grower { random, names, fields, visible: Vec::new(), budget, weights: all, slips };
-    let theme = grower.random.below(18);
-    let far = matches!(theme, 0 | 1 | 4 | 8 | 9);
+    let theme = grower.random.below(21);
+    let far = matches!(theme, 0 | 1 | 4 | 8 | 9 | 11..=13);
     let root = match theme {
         0 => calls_without_end(grower),
         1 => frames_or_objects_without_end(grower),
@@ -36,11 +38,12 @@ pub fn script(random: &mut Random) -> Themed {
         8 => deep(grower),
         9 => to_the_brim(grower),
         10 => faulting(grower),
+        11..=13 => long_bodies(grower),
         _ => grown(grower),
     };
     let root = if root.nodes() > MOST_NODES { skip() } else { root };
     let names = grower.names;
-    let root = if random.once_in(50) { filled(root) } else { root };
+    let root = if random.once_in(50) { filled(root, MOST_NODES) } else { root };
     let codes = codes(random, usize::from(fields));
     let image = match random.below(5) {
         0 => root.image(&codes, MOST_NAMES),
@@ -62,9 +65,9 @@ fn high_names(mut image: Image) -> Image {
     Image { names: MOST_NAMES, ..image }
 }
 
-/// The command followed by so many skips that the script has all the nodes that it may have.
-fn filled(command: Branch) -> Branch {
-    let missing = MOST_NODES - command.nodes();
+/// The command followed by so many skips that the script has so many nodes, where it hasn't more.
+pub fn filled(command: Branch, nodes: usize) -> Branch {
+    let missing = nodes.saturating_sub(command.nodes());
     let command = if missing % 2 == 1 { atom(command) } else { command };
     if missing < 2 {
         return command;
@@ -125,7 +128,7 @@ fn atoms(grower: &mut Grower) -> Branch {
     var(name, sequence(assign(name, integer(0)), inner))
 }
 
-/// A call or a field assignment that has a fault to store, with something else around, beside or before it.
+/// A call or a field assignment whose argument or right side faults, with something else around, beside or before it.
 fn faulting(grower: &mut Grower) -> Branch {
     grower.slips = 200;
     let name = grower.name();

@@ -1,0 +1,5 @@
+pub mod SameTables
+pub mod Sizes
+pub mod Waiting
+pub mod Looking
+pub mod Walking
