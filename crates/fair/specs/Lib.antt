@@ -1,0 +1,2 @@
+pub mod FairRun
+pub mod WholeTurns
