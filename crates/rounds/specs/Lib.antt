@@ -1,0 +1,1 @@
+-- Nothing of its own: what the loop says stands in the crate turnwords.

@@ -1,0 +1,2 @@
+pub mod FairContract
+pub mod Rounds
