@@ -5,3 +5,4 @@ pub mod LineKept
 pub mod TurnLoop
 pub mod TurnAsks
 pub mod WholeFair
+pub mod Determined
