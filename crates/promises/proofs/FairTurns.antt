@@ -41,12 +41,21 @@ use Rattle.fair.proofs.OneTurn.{then-zeros, atom-is-one-turn}
 use Rattle.fair.proofs.Outlooks.{its-choice, from-the-start}
 use Rattle.fair.proofs.NoneStarves.{GoesCalm, MovesLater, none-starves}
 use Rattle.turnwords.specs.declared.Turned.{Turned}
+use Rattle.turnwords.proofs.Determined.{fair-one, fair-met}
 use Rattle.turnwords.specs.FairContract.{picksBy, picksOf, Fairly}
 use Rattle.promises.specs.Saying.{Refuses, Accepts, StartFits}
 use Rattle.promises.specs.FairSaying.{picked, fairRun, queueOf, TurnBegins}
 use Rattle.promises.proofs.Answers.{accepts-only, refused-answer}
 
 -- ======== "Add a run that picks the choices."
+
+-- for any bytes, any list and any workspace there is an answer, and just one, with every choice and every word
+pub fair-answers : (img lent before : List ℕ) → (r : Turned) × (lent′ : List ℕ) × (after : List ℕ) × Fairly img r lent lent′ before after
+fair-answers = fair-met
+
+pub fair-decides : {img lent before : List ℕ} {r q : Turned} {l m w v : List ℕ}
+    → Fairly img r lent l before w → Fairly img q lent m before v → (r ≡ q) × (l ≡ m) × (w ≡ v)
+fair-decides = fair-one
 
 module _ (img lent before : List ℕ) (r : Turned) (lent′ after : List ℕ) (says : Fairly img r lent lent′ before after) where
   -- a refused script gives the first reason and the place, and leaves the list and the workspace as they were
