@@ -31,5 +31,6 @@ pub mod shrink;
 pub mod stops;
 pub mod subject;
 pub mod worked;
+pub mod worked_turns;
 pub mod written;
 pub mod x86;
