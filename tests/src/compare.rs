@@ -158,7 +158,7 @@ pub fn search(
         let mut how = differs(wanted, subject, case);
         if let Some(subject) = subject.as_fair() {
             let wanted = fairly(reference, case);
-            met.push(format!("fair: {}", told(&wanted.turned.answer)));
+            met.extend((wanted.turned.answer.refusal == 0).then(|| format!("fair: {}", told(&wanted.turned.answer))));
             amount += wanted.turned.answer.steps;
             how = how.or_else(|| turns_differ(&wanted, subject, case));
         }

@@ -30,6 +30,7 @@ pub mod search;
 pub mod shrink;
 pub mod stops;
 pub mod subject;
+pub mod turns;
 pub mod worked;
 pub mod worked_turns;
 pub mod written;

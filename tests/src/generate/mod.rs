@@ -2,6 +2,7 @@
 //! choices, the workspace and the rows that go with them.
 
 mod bodies;
+mod branches;
 mod choices;
 mod damage;
 mod express;
