@@ -22,6 +22,7 @@ pub mod independent;
 pub mod lanes;
 #[cfg(feature = "library")]
 pub mod library;
+pub mod outside;
 pub mod parse;
 pub mod random;
 pub mod readback;
