@@ -123,8 +123,9 @@ impl Trial {
     pub fn compared(
         &self,
         by_hand: &[(&'static str, Situation, Outcome)],
-        generated: impl Fn(u64) -> Situation + Sync,
+        generated: fn(u64, u64) -> Situation,
         cases: u64,
+        seed: u64,
     ) -> Result<bool> {
         let directory = &Path::new(env!("CARGO_MANIFEST_DIR")).join("../target").join(self.directory);
         by_hand.iter().for_each(|(what, situation, outcome)| assert_eq!((self.wanted)(situation), *outcome, "{what}"));
@@ -134,10 +135,10 @@ impl Trial {
             }
         }
         let right = all_right(directory, cases, |lane, number| {
-            self.right(lane, &format!("case {number}"), &generated(number))
+            self.right(lane, &format!("case {number} of seed {seed}"), &generated(seed, number))
         })?;
         if right {
-            println!("{} situations by hand and {cases} generated ones are right", by_hand.len());
+            println!("{} situations by hand and {cases} of seed {seed} are right", by_hand.len());
         }
         Ok(right)
     }

@@ -149,7 +149,7 @@ fn generated(seed: u64, number: u64) -> Situation {
 fn compared(program: &str, cases: u64, seed: u64) -> Result<bool> {
     let program = std::fs::canonicalize(program)?;
     let trial = Trial { program, directory: "encodings", wanted, also: |_, _, _, _| Ok(true) };
-    trial.compared(&by_hand(), |number| generated(seed, number), cases)
+    trial.compared(&by_hand(), generated, cases, seed)
 }
 
 fn encoded_here() {
