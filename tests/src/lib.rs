@@ -4,7 +4,7 @@
 //!
 //! Reading order: `subject` (what is compared), `image`, `assemble` and `parse` (scripts), `independent` (the reference),
 //! `flat` (the measure of speed), `generate`, `search`, `compare` and `shrink`; `readback` (the state in the words of a run); `stops`,
-//! `bodies` and `worked_turns` (scripts by hand of orders 2, 3 and 4), `comparisons` (what a run compares) and `turns` (the turns of a fair run). For written
+//! `bodies` and `worked_turns` (scripts by hand of orders 2, 3 and 4), `comparisons` (what a run compares), `turns` (the turns of a fair run) and `met` (how often something is met). For written
 //! scripts `written` (the reference), `chart` (the second opinion), `generate::written` and `reading` (their comparison), `worked` (texts by hand).
 //! For programs `outside` (a folder before and after), `encoding` and `turning` (what `encode` and `turns` print and make).
 
@@ -22,6 +22,7 @@ pub mod independent;
 pub mod lanes;
 #[cfg(feature = "library")]
 pub mod library;
+pub mod met;
 pub mod outside;
 pub mod parse;
 pub mod random;

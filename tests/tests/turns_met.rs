@@ -1,11 +1,11 @@
 //! The turns of the fair runs of the generated cases, counted: they have what order 4 of document 02 is about.
 
-use flagcopper_tests::generate::case;
+use flagcopper_tests::generate::Case;
 use flagcopper_tests::independent::machine::End;
-use flagcopper_tests::random::Random;
+use flagcopper_tests::met::Met;
 use flagcopper_tests::subject::SIZE;
 use flagcopper_tests::turns::{turns, Turn, Turns};
-use std::collections::{BTreeMap, BTreeSet};
+use std::collections::BTreeSet;
 
 fn about(number: usize) -> &'static str {
     match number {
@@ -80,17 +80,12 @@ fn met(turns: &Turns, room: usize) -> BTreeSet<String> {
     met
 }
 
-/// In how many of the cases that `differ` tries in the gate each thing is met.
-fn counted() -> BTreeMap<String, usize> {
-    let mut counts = BTreeMap::new();
-    for number in 0..20_000 {
-        let case = case(&mut Random::of_case(1, number));
-        let Some(turns) = turns(&case.script, case.picks).filter(|_| case.words >= SIZE) else { continue };
-        let stopped = matches!(turns.end, End::Fault(_) | End::Room(_)) && turns.picked > 0;
-        assert_eq!(turns.picked, turns.steps + usize::from(stopped), "case {number}: the choices picked");
-        met(&turns, case.picks).into_iter().for_each(|what| *counts.entry(what).or_default() += 1);
-    }
-    counts
+/// What is met in the fair run of a case.
+fn met_by(case: &Case) -> BTreeSet<String> {
+    let Some(turns) = turns(&case.script, case.picks).filter(|_| case.words >= SIZE) else { return BTreeSet::new() };
+    let stopped = matches!(turns.end, End::Fault(_) | End::Room(_)) && turns.picked > 0;
+    assert_eq!(turns.picked, turns.steps + usize::from(stopped), "the choices picked");
+    met(&turns, case.picks)
 }
 
 /// All that must be met: of a command's turn and of an atom's what they leave and where, while others wait; of an atom's what is inside it; how many
@@ -126,11 +121,7 @@ fn wanted() -> Vec<String> {
 
 #[test]
 fn turns_are_met() {
-    let counts = counted();
-    for what in wanted() {
-        let count = counts.get(&what).copied().unwrap_or(0);
-        println!("{what}: {count}");
-        assert!(count >= 5, "{what}: {count} times");
-    }
-    assert_eq!(counts.get("out of range"), None, "a fair run picks what can move");
+    let counts = Met::in_the_gates_cases(met_by);
+    counts.has_all(&wanted(), 5);
+    assert_eq!(counts.of("out of range"), 0, "a fair run picks what can move");
 }
