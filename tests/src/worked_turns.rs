@@ -37,7 +37,7 @@ fn side_by_side(count: usize, command: &str) -> String {
 }
 
 pub fn worked_turns() -> Vec<Worked> {
-    [entries(), atoms(), lists(), rooms(), many()].into_iter().flatten().collect()
+    [entries(), left_behind(), atoms(), lists(), rooms(), many()].into_iter().flatten().collect()
 }
 
 /// The entries of FairCases but those about the list.
@@ -66,6 +66,18 @@ fn entries() -> Vec<Worked> {
         worked("left_atom", left_atom, (9, &[0, 0, 0, 2, 0, 0]), (DONE, 6), [0, 1, 0], &[Some(3)]),
         worked("nested_atoms", nested, (9, &[0; 6]), (DONE, 6), [0, 1, 0], &[Some(3)]),
         worked("fault_in_atom", fault_in_atom, (9, &[0; 3]), ((2, 1, Some(2)), 2), [4, 1, 0], &[None]),
+    ]
+}
+
+/// Of the sentence "The front one moves; what its step leaves movable goes to the back, left to right."
+fn left_behind() -> Vec<Worked> {
+    // A B C. A at 0, ends: B C. B at 0 leaves three: C B₁ B₂ B₃, while control is B₁ B₂ B₃ C. C at 3, then the three, each at 0.
+    let three_from_one = "{{skip || var x; {skip || {skip || skip}}} || skip}";
+    // A B C, and A is followed by three. A at 0, ends, and they are opened: B C A₁ A₂ A₃, while control is A₁ A₂ A₃ B C. B at 3, ends: C at 3.
+    let three_that_waited = "{{skip; {{skip || skip} || skip}} || {skip || skip}}";
+    vec![
+        worked("three_from_one", three_from_one, (9, &[0, 0, 3, 0, 0, 0]), (DONE, 6), [0, 1, 0], &[None]),
+        worked("three_that_waited", three_that_waited, (9, &[0, 3, 3, 0, 0, 0]), (DONE, 6), [0, 0, 0], &[]),
     ]
 }
 

@@ -128,11 +128,12 @@ fn those(which: impl Fn(&Worked) -> bool) -> Vec<&'static str> {
 
 #[test]
 fn each_wrong_turn_on_the_worked_scripts() {
-    let new = ["two_from_one", "after_parallel", "left_atom", "nested_atoms", "fault_in_atom", "leftmost_in_atom"];
+    let entries = ["two_from_one", "after_parallel", "left_atom", "nested_atoms", "fault_in_atom"];
+    let others = ["three_from_one", "three_that_waited", "leftmost_in_atom"];
     let beside = ["fault_beside", "fault_beside_just", "fault_beside_full"];
     let rest = ["atom_in_loop", "loop_beside_atoms", "left_atom", "behind_two_loops"];
     let inside = ["loop_beside_atoms", "nested_atoms", "leftmost_in_atom"];
-    assert_eq!(told_apart_by(Wrong::NewRightToLeft), [&new[..], &beside].concat());
+    assert_eq!(told_apart_by(Wrong::NewRightToLeft), [&entries[..], &others, &beside].concat());
     assert_eq!(told_apart_by(Wrong::AtomsRestInFront), rest);
     assert_eq!(told_apart_by(Wrong::RightmostInAtom), inside);
     assert_eq!(told_apart_by(Wrong::EnteringEndsTurn), inside[2..]);
@@ -146,5 +147,5 @@ fn each_wrong_turn_on_the_worked_scripts() {
     let (in_front, one_for_one) = (told_apart_by(Wrong::NewInFront), told_apart_by(Wrong::ReplacedKeepsPlace));
     assert!(["own_stacks", "loop_beside", "no_frame"].iter().all(|name| one_for_one.contains(name)));
     let only_in_front: Vec<_> = in_front.into_iter().filter(|name| !one_for_one.contains(name)).collect();
-    assert_eq!(only_in_front, ["two_from_one", "left_atom"]);
+    assert_eq!(only_in_front, ["two_from_one", "left_atom", "three_from_one", "three_that_waited"]);
 }
