@@ -94,7 +94,7 @@ flagcopper_told flagcopper_trace(const uint8_t *script, size_t script_bytes, con
 
 typedef struct {
     flagcopper_told told;
-    size_t picked; /* the choices picked: the steps, and one more where a step stopped the run (fault or room); 0 where refused */
+    size_t picked; /* choices: the steps, and one more where a step stopped the run, for a fault or room; 0 where refused */
 } flagcopper_turned;
 
 /* Checks and runs with turns taken fairly: the run picks its own choices, at most as many as `picks` has bytes. Movable
