@@ -1,11 +1,10 @@
 -- What the choice file is good for: document 02, order 4, "the base run on them ends the same". The listing of a script with the file that `turns` made of it is a
 -- run's, never `choices too long`, and the line of its end is the line that `turns` printed. A script that is accepted and makes no step, its root too
 -- large as opened, makes a file of no bytes. Assumes nothing.
-use Prim.Native.Nat.{ℕ, suc, _≤_}
+use Prim.Native.Nat.{ℕ, _≤_}
 use mathlib.Core.Path.{_≡_, refl, sym, ap, subst, _∙_}
-use mathlib.Core.Option.{Option, none, some}
+use mathlib.Core.Option.{none, some, Option·some-injective, Option·none-ne-some}
 use mathlib.Core.List.{List, [], _∷_, _++_, flatten}
-use native.Mathlib.Omega.{arith}
 use lib.ListN.{length}
 use borrow.Author.Tests.{le-leb}
 use Rattle.rules.specs.declared.Verdict.{Verdict}
@@ -32,20 +31,14 @@ module _ (img : List ℕ) where
   unfolding makes madeBy fair runScript
   made-accepted e = rw e
 
-  some-one : {A : Type 0} (a b : A) → some a ≡ some b → a ≡ b
-  some-one a b e = cc
-
-  none-some : {A B : Type 0} (a : A) → none ≡ some a → B
-  none-some a e = let z : _≡_ {A = ℕ} 0 1 = cc in absurd (omega arith)
-
   -- a file is made of an accepted script alone, and holds the choices picked
   pub made-file : (cs : List ℕ) → makes (some img) .file ≡ some cs → (check [] size img ≡ Accepted) × (cs ≡ picked)
   unfolding makes madeBy
   made-file cs e = go (check [] size img) refl
     where
       go : (v : Verdict) → check [] size img ≡ v → (check [] size img ≡ Accepted) × (cs ≡ picked)
-      go Accepted i = let f : some picked ≡ some cs = rw i at e in (i, sym (some-one picked cs f))
-      go (Refused k p) i = let f : none ≡ some cs = rw i at e in none-some cs f
+      go Accepted i = let f : some picked ≡ some cs = rw i at e in (i, sym (Option·some-injective picked cs f))
+      go (Refused k p) i = let f : none ≡ some cs = rw i at e in absurd (Option·none-ne-some cs f)
 
   listed-whole : (cs : List ℕ) → length cs ≤ 4096 → check [] size img ≡ Accepted → printed (some img) (some cs) ≡ flatten (runLines img (rowsOf img cs) (runScript img cs))
   unfolding printed mostChoices listing listingLines linesBy
