@@ -1,1 +1,2 @@
 pub mod Makes
+pub mod Says

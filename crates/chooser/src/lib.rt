@@ -1,1 +1,3 @@
-// What the program `turns` makes of a script's file; no functions yet.
+// The program `turns` as a library: what is printed for a script's file and the choice file that is made of its fair run, and the files.
+pub mod answer;
+pub mod files;
