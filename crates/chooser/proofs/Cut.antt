@@ -1,6 +1,6 @@
 -- The cut of the read is not seen: the first 16,427 bytes of a script's file give what the whole file gives. Assumes nothing.
 use Prim.Native.Nat.{ℕ}
-use mathlib.Core.Path.{_≡_, refl}
+use mathlib.Core.Path.{_≡_}
 use mathlib.Core.Option.{none, some}
 use mathlib.Core.List.{List, []}
 use lib.ListN.{take}

@@ -9,7 +9,7 @@ use Rattle.text.specs.Written.{Line}
 use Rattle.rules.specs.declared.Answer.{Answer}
 use Rattle.rules.specs.declared.Answer.the-variants.{Refusal, Ending}
 use Rattle.listed.specs.Listing.{endLine, refusedLine}
-use Rattle.chooser.specs.Makes.{Made, makes}
+use Rattle.chooser.specs.Makes.{makes}
 use Rattle.chooser.specs.declared.answer.ChoiceFile.{ChoiceFile}
 use Rattle.chooser.specs.declared.answer.ChoiceFile.the-variants.{NotMade, Bytes}
 use Rattle.chooser.specs.declared.answer.Answered.{Answered}
