@@ -1,4 +1,4 @@
--- A file that is there, with its bytes, or missing. Assumes nothing.
+-- A file that is there, with its bytes, also with none, or missing. Assumes nothing.
 use Prim.Native.Nat.{ℕ}
 use mathlib.Core.Bool.{Bool, true, false}
 use mathlib.Core.Option.{Option, none, some}
