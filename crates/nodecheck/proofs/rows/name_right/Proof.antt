@@ -1,8 +1,8 @@
--- `nodecheck::name_right` meets its contract.
+-- `nodecheck::rows::name_right` meets its contract.
 -- Assumes nothing.
 use borrow.Author.Needs.{needs}
-use Rattle.nodecheck.proofs.name_right.Statement.{statement}
-use Rattle.nodecheck.proofs.name_right.Tie as tie
+use Rattle.nodecheck.proofs.rows.name_right.Statement.{statement}
+use Rattle.nodecheck.proofs.rows.name_right.Tie as tie
 
 names-requires : tie.Need-names-requires
 names-requires c κs = search needs

@@ -1,9 +1,9 @@
--- `nodecheck::index_right` meets its contract.
+-- `nodecheck::rows::index_right` meets its contract.
 -- Assumes nothing.
 use borrow.Author.Tests.{le-leb, lt-leb}
 use borrow.Author.Needs.{needs}
-use Rattle.nodecheck.proofs.index_right.Statement.{statement}
-use Rattle.nodecheck.proofs.index_right.Tie as tie
+use Rattle.nodecheck.proofs.rows.index_right.Statement.{statement}
+use Rattle.nodecheck.proofs.rows.index_right.Tie as tie
 
 returns : tie.Need-returns
 returns c = rw (lt-leb 1 _ (c .if1 .taken))
