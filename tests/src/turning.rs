@@ -6,7 +6,7 @@ use crate::independent::turns::fair;
 use crate::subject::{Refusal, SIZE};
 use std::rc::Rc;
 
-/// What the program prints for any other number of arguments than two.
+/// What the program prints for any other number of arguments than two, and for one name twice: the choices would take the script's place.
 pub const USAGE: &str = "usage: turns SCRIPT CHOICES\n";
 
 pub struct Turning {

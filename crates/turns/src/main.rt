@@ -4,6 +4,11 @@ fn with_names() {
     let n = os::arg(1, &mut script);
     let mut choices = io::buffer();
     let m = os::arg(2, &mut choices);
+    // the choices would take the script's place, and the script would be lost
+    if check::same(&script[..n], &choices[..m]) {
+        chooser::files::print_usage();
+        return;
+    }
     chooser::files::choose_paths(&script[..n], &choices[..m]);
 }
 

@@ -23,6 +23,9 @@ const NAMES: [&str; 2] = ["script.img", "choices.bin"];
 fn wanted(situation: &Situation) -> Outcome {
     let files = &situation.files;
     let [name, choices] = situation.arguments[..] else { return Outcome::quiet(USAGE, files) };
+    if name == choices {
+        return Outcome::quiet(USAGE, files);
+    }
     let turned = turning(files.get(name).and_then(|file| file.as_deref()));
     match turned.choices {
         None => Outcome::quiet(turned.printed, files),
@@ -84,6 +87,8 @@ fn by_hand() -> Vec<(&'static str, Situation, Outcome)> {
     for arguments in [&[][..], &["script.img"], &["script.img", "choices.bin", "x"]] {
         add("a wrong number of arguments", &old, arguments, Outcome::quiet("usage: turns SCRIPT CHOICES\n", &old));
     }
+    let usage = Outcome::quiet("usage: turns SCRIPT CHOICES\n", &old);
+    add("one name for both", &old, &["script.img", "script.img"], usage);
     let refused = of("{skip; malloc(x)}");
     add("a refusal", &refused, &NAMES, Outcome::quiet("refused 9 at 1\n", &refused));
     let beside = with(&refused, "choices.bin", b"old");
@@ -134,6 +139,7 @@ fn generated(seed: u64, number: u64) -> Situation {
     let arguments = match random.below(40) {
         0 => vec![script],
         1 => vec![script, "out/choices.bin"],
+        2 => vec![script, script],
         _ => vec![script, choices],
     };
     Situation { files, arguments }
