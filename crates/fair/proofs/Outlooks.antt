@@ -1,23 +1,21 @@
 -- The customer's sentence, whole: document 02, order 4, "A command with k others ahead of it moves at turn k + 1 at the latest, unless an atom entered
 -- meanwhile never ends or the run stops". Whatever room the list has, the command's turn comes, or one of the k turns before it has no end,
 -- or the list was too short for them (`its-turn-comes`). Its choice is the next one in the list then (`its-choice`); a turn without an end is the run's
--- stop, or an atom still entered with the list full (`unended-run`). Assumes nothing.
+-- stop, or an atom still entered with the list full (`unended-run`): so it is said of the choices and of the run (`becomes`). Assumes nothing.
 use Prim.Native.Nat.{ℕ, zero, suc, _+_, _-_, _<_, _≤_}
 use mathlib.Core.Path.{_≡_, refl, sym, ap, subst, _∙_}
 use mathlib.Core.Bool.{Bool, true, false}
 use mathlib.Core.Option.{none, some, Option·some-injective}
-use mathlib.Core.List.{List, [], _∷_, _++_}
+use mathlib.Core.List.{List, [], _∷_, _++_, append-nil}
 use native.Mathlib.Omega.{arith}
 use lib.ListN.{length, getElem?, length-append}
-use Rattle.rules.specs.declared.Stop.{Stop}
-use Rattle.rules.specs.declared.End.the-variants.{UsedUp, Stopped}
 use Rattle.rules.specs.Control.{Control, atomIn, movable, Outcome, goesTo, stops}
 use Rattle.rules.specs.Step.{Machine, step}
-use Rattle.rules.specs.Run.{Start, Ran, ran, runFrom, begins}
+use Rattle.rules.specs.Run.{Start, ran, runFrom, begins}
 use Rattle.rules.proofs.Runs.{run-used}
 use Rattle.safety.proofs.Reaches.{run-reaches}
 use Rattle.fair.specs.FairRun.{Line, firstLine, pickOf, lineAfter, picksOn, picksFrom}
-use Rattle.fair.specs.WholeTurns.{TurnOn, turn-over, leftmost-moves, Turn, Turns, no-turn, turn, Unended, run-stops, still-inside, goes-further, Outlook, its-turn, unended, list-full}
+use Rattle.fair.specs.WholeTurns.{TurnOn, turn-over, leftmost-moves, Turn, Turns, no-turn, turn, Unended, run-stops, still-inside, goes-further, Outlook, its-turn, unended, list-full, RunUnended, stopped, inside, Becomes, moves-then, never-ends, list-ends}
 use Rattle.fair.proofs.Leaves.{calm-moves}
 use Rattle.fair.proofs.Queues.{front-once}
 use Rattle.fair.proofs.Lines.{Between, one-fewer}
@@ -154,11 +152,6 @@ module _ {S E : Type 0} (m : Machine S E) where
 
   -- ---- what a turn without an end means for the run
 
-  -- "unless an atom entered meanwhile never ends": the list is full, and it is entered still; "or the run stops"
-  pub data RunUnended (r : Ran S) : Type 0 where
-    stopped : {x : Stop} → r .end ≡ Stopped x → RunUnended r
-    inside : {t : Control} → r .end ≡ UsedUp → r .control ≡ some t → atomIn t ≡ true → RunUnended r
-
   unended-here : (n k : ℕ) (s : S) (t : Control) (l : Line)
       → Unended m l n s t
       → RunUnended (runFrom m (picksFrom m n s (some t) (some l)) k s (some t))
@@ -180,11 +173,26 @@ module _ {S E : Type 0} (m : Machine S E) where
       )
       (unended-here left (k + length cs) s′ t′ l′ u)
 
+  -- ---- the outlook, said of the choices and of the run
+
+  pub becomes : (c k n : ℕ) (s : S) (t : Control) (l : Line) → Between t l → Outlook m c k n s t l → Becomes m c k n s t l
+  becomes c k n s t l b (its-turn {cs = cs} {s′ = s′} {t′ = t′} {l′ = l′} r h e) = let x = its-choice k n cs s s′ t t′ l l′ b r h in moves-then (x .0) r (x .1) e
+  becomes c k n s t l b (unended {j = j} {left = i} {cs = cs} {s′ = s′} {t′ = t′} {l′ = l′} r h e u) =
+      never-ends r h (subst (λ (z : ℕ). RunUnended (runFrom m (picksFrom m z s (some t) (some l)) 0 s (some t))) e (unended-run j i 0 cs s s′ t t′ l l′ b r u))
+  becomes c k n s t l b (list-full {j = j} {cs = cs} {s′ = s′} {t′ = t′} {l′ = l′} r h e) =
+      let z : n ≡ length cs + 0 = omega arith in
+      list-ends r h
+      (ap (λ (i : ℕ). picksFrom m i s (some t) (some l)) z
+      ∙ turns-picks m s′ t′ l′ j cs s t l r b 0
+      ∙ rw (picks-full m s′ (some t′) (some l′)) (append-nil cs))
+
   -- ---- the same as any turn of a fair run begins, i whole turns after its start
 
   pub from-the-start : (st : Start S) (root : ℕ) (l₀ : Line) (i k n c : ℕ) (cs : List ℕ) (s : S) (t : Control) (l : Line)
       → firstLine (begins m st root) ≡ some l₀
       → Turns m s t l i cs (st .store) (begins m st root) l₀
       → getElem? (l .front ∷ l .rest) k ≡ some c
-      → Outlook m c k n s t l
-  from-the-start st root l₀ i k n c cs s t l e r d = its-turn-comes k n c s t l (turn-begins m st root l₀ i cs s t l e r) d
+      → Becomes m c k n s t l
+  from-the-start st root l₀ i k n c cs s t l e r d =
+      let b = turn-begins m st root l₀ i cs s t l e r in
+      becomes c k n s t l b (its-turn-comes k n c s t l b d)

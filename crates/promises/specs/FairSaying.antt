@@ -2,11 +2,12 @@
 -- Assumes nothing.
 use Prim.Native.Nat.{ℕ}
 use mathlib.Core.Path.{_≡_}
-use mathlib.Core.Option.{some}
-use mathlib.Core.List.{List, _∷_}
+use mathlib.Core.Option.{Option, some}
+use mathlib.Core.List.{List, _∷_, map}
+use lib.ListN.{getElem?}
 use Rattle.rules.specs.State.{Store, empty}
 use Rattle.rules.specs.Script.{rootOf}
-use Rattle.rules.specs.Control.{Control}
+use Rattle.rules.specs.Control.{Control, Move, movable}
 use Rattle.rules.specs.Run.{Ran, machine, start, bare}
 use Rattle.fair.specs.FairRun.{Queue, Line, firstLine, picks, fair}
 use Rattle.fair.specs.WholeTurns.{Turns}
@@ -21,6 +22,10 @@ fairRun img n = fair (machine img) n bare (rootOf img)
 -- who waits, the next to move first
 abbrev pub queueOf : Line → Queue
 queueOf l = l .front ∷ l .rest
+
+-- the commands that stand at these positions of control
+abbrev pub commandsIn : Control → Queue → List (Option Move)
+commandsIn t q = map (getElem? (movable t)) q
 
 -- a turn begins with this store, this control and this queue, i whole turns after the start
 pub record TurnBegins (img : List ℕ) (i : ℕ) (s : Store) (t : Control) (l : Line) : Type 0 where
