@@ -1,27 +1,30 @@
 -- The customer's sentence, whole: document 02, order 4, "A command with k others ahead of it moves at turn k + 1 at the latest, unless an atom entered
 -- meanwhile never ends or the run stops". Whatever room the list has, the command's turn comes, or one of the k turns before it has no end,
 -- or the list was too short for them (`its-turn-comes`). Its choice is the next one in the list then (`its-choice`); a turn without an end is the run's
--- stop, or an atom still entered with the list full (`unended-run`): so it is said of the choices and of the run (`becomes`). Assumes nothing.
+-- stop, or an atom still entered with the list full (`unended-run`). Said of the whole list and the whole run: `picked-before`, `runs-before`. Assumes nothing.
 use Prim.Native.Nat.{ℕ, zero, suc, _+_, _-_, _<_, _≤_}
 use mathlib.Core.Path.{_≡_, refl, sym, ap, subst, _∙_}
 use mathlib.Core.Bool.{Bool, true, false}
 use mathlib.Core.Option.{none, some, Option·some-injective}
-use mathlib.Core.List.{List, [], _∷_, _++_, append-nil}
+use mathlib.Core.List.{List, [], _∷_, _++_}
 use native.Mathlib.Omega.{arith}
 use lib.ListN.{length, getElem?, length-append}
 use Rattle.rules.specs.Control.{Control, atomIn, movable, Outcome, goesTo, stops}
 use Rattle.rules.specs.Step.{Machine, step}
 use Rattle.rules.specs.Run.{Start, ran, runFrom, begins}
 use Rattle.rules.proofs.Runs.{run-used}
+use Rattle.rules.proofs.ControlLaws.{opened-no-atom}
+use Rattle.safety.specs.Reaches.{StartFits}
 use Rattle.safety.proofs.Reaches.{run-reaches}
-use Rattle.fair.specs.FairRun.{Line, firstLine, pickOf, lineAfter, picksOn, picksFrom}
-use Rattle.fair.specs.WholeTurns.{TurnOn, turn-over, leftmost-moves, Turn, Turns, no-turn, turn, Unended, run-stops, still-inside, goes-further, Outlook, its-turn, unended, list-full, RunUnended, stopped, inside, Becomes, moves-then, never-ends, list-ends}
+use Rattle.fair.specs.FairRun.{Line, firstLine, pickOf, lineAfter, picksOn, picksFrom, picks, fair}
+use Rattle.fair.specs.WholeTurns.{TurnOn, turn-over, leftmost-moves, Turn, Turns, no-turn, turn, Unended, run-stops, still-inside, goes-further, Outlook, its-turn, unended, list-full, RunUnended, stopped, inside}
 use Rattle.fair.proofs.Leaves.{calm-moves}
 use Rattle.fair.proofs.Queues.{front-once}
-use Rattle.fair.proofs.Lines.{Between, one-fewer}
+use Rattle.fair.proofs.Lines.{Between, first-between, one-fewer}
 use Rattle.fair.proofs.Turning.{turn-keeps}
 use Rattle.fair.proofs.Moments.{Moment, between, within, next-moment, not-done}
 use Rattle.fair.proofs.Picked.{picks-full, run-on, run-breaks}
+use Rattle.fair.proofs.Ending.{picks-start, fair-start}
 use Rattle.fair.proofs.Waiting.{between-after, between-turns, turn-begins, turns-picks, turns-reach}
 
 module _ {S E : Type 0} (m : Machine S E) where
@@ -173,26 +176,26 @@ module _ {S E : Type 0} (m : Machine S E) where
       )
       (unended-here left (k + length cs) s′ t′ l′ u)
 
-  -- ---- the outlook, said of the choices and of the run
-
-  pub becomes : (c k n : ℕ) (s : S) (t : Control) (l : Line) → Between t l → Outlook m c k n s t l → Becomes m c k n s t l
-  becomes c k n s t l b (its-turn {cs = cs} {s′ = s′} {t′ = t′} {l′ = l′} r h e) = let x = its-choice k n cs s s′ t t′ l l′ b r h in moves-then (x .0) r (x .1) e
-  becomes c k n s t l b (unended {j = j} {left = i} {cs = cs} {s′ = s′} {t′ = t′} {l′ = l′} r h e u) =
-      never-ends r h (subst (λ (z : ℕ). RunUnended (runFrom m (picksFrom m z s (some t) (some l)) 0 s (some t))) e (unended-run j i 0 cs s s′ t t′ l l′ b r u))
-  becomes c k n s t l b (list-full {j = j} {cs = cs} {s′ = s′} {t′ = t′} {l′ = l′} r h e) =
-      let z : n ≡ length cs + 0 = omega arith in
-      list-ends r h
-      (ap (λ (i : ℕ). picksFrom m i s (some t) (some l)) z
-      ∙ turns-picks m s′ t′ l′ j cs s t l r b 0
-      ∙ rw (picks-full m s′ (some t′) (some l′)) (append-nil cs))
-
   -- ---- the same as any turn of a fair run begins, i whole turns after its start
 
-  pub from-the-start : (st : Start S) (root : ℕ) (l₀ : Line) (i k n c : ℕ) (cs : List ℕ) (s : S) (t : Control) (l : Line)
-      → firstLine (begins m st root) ≡ some l₀
-      → Turns m s t l i cs (st .store) (begins m st root) l₀
-      → getElem? (l .front ∷ l .rest) k ≡ some c
-      → Becomes m c k n s t l
-  from-the-start st root l₀ i k n c cs s t l e r d =
-      let b = turn-begins m st root l₀ i cs s t l e r in
-      becomes c k n s t l b (its-turn-comes k n c s t l b d)
+  module _ (st : Start S) (root : ℕ) (l₀ : Line) (i : ℕ) (ds : List ℕ) (s : S) (t : Control) (l : Line)
+      (first : firstLine (begins m st root) ≡ some l₀)
+      (turns : Turns m s t l i ds (st .store) (begins m st root) l₀) where
+    pub from-the-start : (k n c : ℕ) → getElem? (l .front ∷ l .rest) k ≡ some c → Outlook m c k n s t l
+    from-the-start k n c d = its-turn-comes k n c s t l (turn-begins m st root l₀ i ds s t l first turns) d
+
+    begun : Between (begins m st root) l₀
+    unfolding begins
+    begun = first-between (begins m st root) l₀ (opened-no-atom (m .cmdAt root) (st .chain)) first
+
+    -- the choices of the turns before it are the first that are picked
+    pub picked-before : StartFits m st root → (n : ℕ) → picks m (length ds + n) st root ≡ ds ++ picksFrom m n s (some t) (some l)
+    picked-before h n = picks-start m (length ds + n) st root h ∙ rw first (turns-picks m s t l i ds (st .store) (begins m st root) l₀ turns begun n)
+
+    -- and the run goes on from there
+    pub runs-before : StartFits m st root → (n : ℕ)
+        → fair m (length ds + n) st root ≡ runFrom m (picksFrom m n s (some t) (some l)) (0 + length ds) s (some t)
+    runs-before h n =
+        fair-start m (length ds + n) st root h
+        ∙ rw (first, turns-picks m s t l i ds (st .store) (begins m st root) l₀ turns begun n)
+        (run-reaches m s (some t) ds (st .store) (some (begins m st root)) (turns-reach m s t l i ds (st .store) (begins m st root) l₀ turns) (picksFrom m n s (some t) (some l)) 0)

@@ -11,8 +11,8 @@ use Rattle.rules.specs.declared.Stop.{Stop}
 use Rattle.rules.specs.declared.End.the-variants.{UsedUp, Stopped}
 use Rattle.rules.specs.Control.{Control, atomIn, movable, goesTo, stops}
 use Rattle.rules.specs.Step.{Machine, step}
-use Rattle.rules.specs.Run.{Ran, runFrom}
-use Rattle.fair.specs.FairRun.{Line, pickOf, lineAfter, picksFrom}
+use Rattle.rules.specs.Run.{Ran}
+use Rattle.fair.specs.FairRun.{Line, pickOf, lineAfter}
 
 module _ {S E : Type 0} (m : Machine S E) where
   -- What is still to come of a turn, up to the store s′ with the control t′, by these choices: where no atom is entered, nothing; "inside
@@ -76,29 +76,9 @@ module _ {S E : Type 0} (m : Machine S E) where
         → length cs ≡ n
         → Outlook c k n s t l
 
--- ---- what that means for the choices picked and for the run
+-- ---- what a turn without an end means for the run
 
 -- "unless an atom entered meanwhile never ends": the list is full, and it is entered still; "or the run stops"
 pub data RunUnended {S : Type 0} (r : Ran S) : Type 0 where
   stopped : {x : Stop} → r .end ≡ Stopped x → RunUnended r
   inside : {t : Control} → r .end ≡ UsedUp → r .control ≡ some t → atomIn t ≡ true → RunUnended r
-
-module _ {S E : Type 0} (m : Machine S E) where
-  -- The command at position c, with k others ahead of it, again: after the choices of k whole turns the next one picked is its position; or one of
-  -- those turns has no end; or the list was full with k of them or fewer.
-  pub data Becomes (c k n : ℕ) (s : S) (t : Control) (l : Line) : Type 0 where
-    moves-then : {cs : List ℕ} (later : List ℕ) {s′ : S} {t′ : Control} {l′ : Line}
-        → Turns m s′ t′ l′ k cs s t l
-        → picksFrom m n s (some t) (some l) ≡ cs ++ (l′ .front ∷ later)
-        → getElem? (movable t′) (l′ .front) ≡ getElem? (movable t) c  -- the same node, in the same chain
-        → Becomes c k n s t l
-    never-ends : {j : ℕ} {cs : List ℕ} {s′ : S} {t′ : Control} {l′ : Line}
-        → Turns m s′ t′ l′ j cs s t l
-        → j < k
-        → RunUnended (runFrom m (picksFrom m n s (some t) (some l)) 0 s (some t))
-        → Becomes c k n s t l
-    list-ends : {j : ℕ} {cs : List ℕ} {s′ : S} {t′ : Control} {l′ : Line}
-        → Turns m s′ t′ l′ j cs s t l
-        → j ≤ k
-        → picksFrom m n s (some t) (some l) ≡ cs
-        → Becomes c k n s t l

@@ -3,10 +3,10 @@
 -- that it picks, into a list with room for so many. The proofs are elsewhere (the crate fair). Assumes nothing.
 use Prim.Native.Nat.{ℕ, suc, _+_, _<_, _≤_}
 use mathlib.Core.Path.{_≡_, refl, sym, ap, subst, _∙_}
-use mathlib.Core.Bool.{false}
-use mathlib.Core.Logic.{_↔_, _≢_}
+use mathlib.Core.Bool.{true, false}
+use mathlib.Core.Logic.{_↔_, _≢_, _⊎_, inl, inr}
 use mathlib.Core.Option.{none, some, Option·some-injective}
-use mathlib.Core.List.{List, [], _∷_, _++_, map}
+use mathlib.Core.List.{List, [], _∷_, _++_, map, append-nil}
 use native.Mathlib.Omega.{arith}
 use lib.ListN.{length, getElem?, take, drop, replicate}
 use lib.Seq.{take-at, drop-at}
@@ -32,19 +32,19 @@ use Rattle.words.specs.Layout.{layout}
 use Rattle.words.specs.Lent.{wordsAfterRun, wordsAfter}
 use Rattle.words.specs.Contracts.{Runs}
 use Rattle.safety.specs.Atoms.{InPlace}
-use Rattle.fair.specs.FairRun.{width, Line, firstLine, pickOf, picksFrom, fair}
-use Rattle.fair.specs.WholeTurns.{Turn, no-turn, Becomes}
+use Rattle.fair.specs.FairRun.{width, Line, pickOf, picksFrom, fair}
+use Rattle.fair.specs.WholeTurns.{Turn, Turns, no-turn, Unended, Outlook, its-turn, unended, list-full, RunUnended}
 use Rattle.fair.proofs.Leaves.{calm-moves}
-use Rattle.fair.proofs.Lines.{Between, first-line, first-between}
+use Rattle.fair.proofs.Lines.{Between, first-line}
 use Rattle.fair.proofs.InTheQueue.{commandsOf, at-first, to-the-back}
 use Rattle.fair.proofs.Moments.{in-range}
-use Rattle.fair.proofs.Ending.{Counted, counted, picked-few, picks-start, picks-too-large, fair-too-large, fair-in-range}
+use Rattle.fair.proofs.Ending.{Counted, counted, picked-few, picks-too-large, fair-too-large, fair-in-range}
 use Rattle.fair.proofs.Longer.{FairGoesOn, fair-goes-on}
-use Rattle.fair.proofs.Picked.{picks-one}
+use Rattle.fair.proofs.Picked.{picks-one, picks-full}
 use Rattle.fair.proofs.Turning.{turn-calm}
 use Rattle.fair.proofs.Waiting.{turn-begins, turns-picks}
 use Rattle.fair.proofs.OneTurn.{then-zeros, atom-is-one-turn}
-use Rattle.fair.proofs.Outlooks.{from-the-start}
+use Rattle.fair.proofs.Outlooks.{its-choice, unended-run, from-the-start, picked-before, runs-before}
 use Rattle.fair.proofs.NoneStarves.{none-starves}
 use Rattle.turnwords.specs.declared.Turned.{Turned}
 use Rattle.turnwords.specs.FairContract.{picksBy, picksOf, Fairly}
@@ -96,17 +96,18 @@ module _ (img lent before : List ℕ) (r : Turned) (lent′ after : List ℕ) (s
     unfolding wordsAfter wordsAfterRun fair runScript
     fair-words = says .words ∙ rw (accepts-only (length before) img accepts, are-picked) refl
 
--- what is picked next, where the run goes on, is the position of a command that can move
+-- what is picked next, where the run goes on, is the position of a command that can move, and inside an atom that of the leftmost
 pub next-can-move : (img : List ℕ) (n : ℕ) → fairRun img n .end ≡ UsedUp → (t : Control) → fairRun img n .control ≡ some t
-    → (c : ℕ) × (c < length (movable t)) × (picked img (n + 1) ≡ picked img n ++ (c ∷ []))
-unfolding ran
+    → (c : ℕ) × (c < length (movable t)) × (atomIn t ≡ true → c ≡ 0) × (picked img (n + 1) ≡ picked img n ++ (c ∷ []))
+unfolding ran pickOf
 next-can-move img n e t o = go (fair-goes-on (machine img) n bare (rootOf img) e)
   where
-    go : FairGoesOn (machine img) n bare (rootOf img) → (c : ℕ) × (c < length (movable t)) × (picked img (n + 1) ≡ picked img n ++ (c ∷ []))
+    go : FairGoesOn (machine img) n bare (rootOf img) → (c : ℕ) × (c < length (movable t)) × (atomIn t ≡ true → c ≡ 0) × (picked img (n + 1) ≡ picked img n ++ (c ∷ []))
     go g =
         let v : g .control ≡ t = sym (Option·some-injective t (g .control) (sym o ∙ ap (λ (r : Ran Store). r .control) (g .run-is))) in (
           pickOf (atomIn (g .control)) (g .line),
           subst (λ (u : Control). pickOf (atomIn (g .control)) (g .line) < length (movable u)) v (in-range (g .control) (g .line) (g .moment)),
+          λ a. rw (ap atomIn v ∙ a) refl,
           g .picks-on 1 ∙ ap (λ (z : List ℕ). picked img n ++ z) (picks-one (machine img) 0 (g .store) (g .control) (g .line)),
         )
 
@@ -134,10 +135,7 @@ module _ (img : List ℕ) (i : ℕ) (s : Store) (t : Control) (l : Line) (begins
 
   -- the choices of the turns before it are the first that are picked
   pub turns-are-picked : StartFits img → (n : ℕ) → picked img (length (begins .choices) + n) ≡ begins .choices ++ picksFrom (machine img) n s (some t) (some l)
-  turns-are-picked h n =
-      picks-start (machine img) (length (begins .choices) + n) bare (rootOf img) h
-      ∙ ap (picksFrom (machine img) (length (begins .choices) + n) empty (some (start img))) (begins .is-first)
-      ∙ turns-picks (machine img) s t l i (begins .choices) empty (start img) (begins .first) (begins .turns) (first-between (start img) (begins .first) (start-calm img) (begins .is-first)) n
+  turns-are-picked = picked-before (machine img) bare (rootOf img) (begins .first) i (begins .choices) s t l (begins .is-first) (begins .turns)
 
   -- each movable command is in the queue, once, and nothing else is
   pub each-queues-once :
@@ -183,10 +181,52 @@ module _ (img : List ℕ) (i : ℕ) (s : Store) (t : Control) (l : Line) (begins
 
   -- ======== "A command with k others ahead of it moves at turn k + 1 at the latest, unless an atom entered meanwhile never ends or the run stops."
 
-  -- into a list with room for n more choices (`Becomes`): it is the same node, in the same chain
-  pub moves-at-its-turn : (k n c : ℕ) → getElem? (queueOf l) k ≡ some c → Becomes (machine img) c k n s t l
-  moves-at-its-turn k n c e =
-      from-the-start (machine img) bare (rootOf img) (begins .first) i k n c (begins .choices) s t l (begins .is-first) (begins .turns) e
+  -- the whole list, with room for n more choices
+  abbrev list : ℕ → List ℕ
+  list n = picked img (length (begins .choices) + n)
+
+  -- after k whole turns the next choice is its position: the same node, in the same chain
+  abbrev MovesNext : ℕ → ℕ → ℕ → Type 0
+  MovesNext k n c =
+      (cs : List ℕ) × (later : List ℕ) × (s′ : Store) × (t′ : Control) × (l′ : Line)
+      × Turns (machine img) s′ t′ l′ k cs s t l
+      × (list n ≡ begins .choices ++ (cs ++ (l′ .front ∷ later)))
+      × (getElem? (movable t′) (l′ .front) ≡ getElem? (movable t) c)
+
+  -- turn j + 1, before that, has no end, and so the run
+  abbrev HasNoEnd : ℕ → ℕ → Type 0
+  HasNoEnd k n =
+      (j : ℕ) × (left : ℕ) × (cs : List ℕ) × (s′ : Store) × (t′ : Control) × (l′ : Line)
+      × Turns (machine img) s′ t′ l′ j cs s t l
+      × (j < k)
+      × (length cs + left ≡ n)
+      × Unended (machine img) l′ left s′ t′
+      × RunUnended (fairRun img (length (begins .choices) + n))
+
+  -- the list was full with k whole turns or fewer
+  abbrev WasFull : ℕ → ℕ → Type 0
+  WasFull k n =
+      (j : ℕ) × (cs : List ℕ) × (s′ : Store) × (t′ : Control) × (l′ : Line)
+      × Turns (machine img) s′ t′ l′ j cs s t l
+      × (j ≤ k)
+      × (length cs ≡ n)
+      × (list n ≡ begins .choices ++ cs)
+
+  pub moves-at-its-turn : StartFits img → (k n c : ℕ) → getElem? (queueOf l) k ≡ some c → MovesNext k n c ⊎ (HasNoEnd k n ⊎ WasFull k n)
+  moves-at-its-turn h k n c e = go (from-the-start (machine img) bare (rootOf img) (begins .first) i (begins .choices) s t l (begins .is-first) (begins .turns) k n c e)
+    where
+      go : Outlook (machine img) c k n s t l → MovesNext k n c ⊎ (HasNoEnd k n ⊎ WasFull k n)
+      go (its-turn {cs = cs} {s′ = s′} {t′ = t′} {l′ = l′} turns room same) =
+          let x = its-choice (machine img) k n cs s s′ t t′ l l′ between turns room in
+          inl (cs, x .0, s′, t′, l′, turns, turns-are-picked h n ∙ ap (λ (z : List ℕ). begins .choices ++ z) (x .1), same)
+      go (unended {j = j} {left = left} {cs = cs} {s′ = s′} {t′ = t′} {l′ = l′} turns before room rest) =
+          let r = runs-before (machine img) bare (rootOf img) (begins .first) i (begins .choices) s t l (begins .is-first) (begins .turns) h n in
+          let u = unended-run (machine img) j left (0 + length (begins .choices)) cs s s′ t t′ l l′ between turns rest in
+          inr (inl (j, left, cs, s′, t′, l′, turns, before, room, rest, rw (r, ← room) u))
+      go (list-full {j = j} {cs = cs} {s′ = s′} {t′ = t′} {l′ = l′} turns before full) =
+          let z : n ≡ length cs + 0 = omega arith in
+          let p : picksFrom (machine img) n s (some t) (some l) ≡ cs = ap (λ (k : ℕ). picksFrom (machine img) k s (some t) (some l)) z ∙ turns-picks (machine img) s′ t′ l′ j cs s t l turns between 0 ∙ rw (picks-full (machine img) s′ (some t′) (some l′)) (append-nil cs) in
+          inr (inr (j, cs, s′, t′, l′, turns, before, full, turns-are-picked h n ∙ ap (λ (z : List ℕ). begins .choices ++ z) p))
 
 -- so no branch starves: in a run that goes on with every list and enters no atom, each command that can move after n steps is the one that moves, no later than at the step with the
 -- number of those that can
