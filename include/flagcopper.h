@@ -1,14 +1,14 @@
 /* Flagcopper: a proved interpreter for MiniOO scripts (target/staticlib/libcapi.a, made by `rt staticlib capi`).
  *
- * Three functions check a script, run it, and run it with a row for each step; one makes the script from MiniOO text,
- * one shows a script as text.
+ * Four functions check a script, run it, run it with a row for each step, and run it with turns taken fairly; one makes the
+ * script from MiniOO text, one shows a script as text.
  * Each answer, and every word of what the caller lends, is the definitions' for every input: any bytes, any choices, any
  * workspace. They keep nothing between calls, allocate nothing and never stop the program. Give a call some 200 KB of
  * stack, flagcopper_write 4 MB: of the scripts measured, the deepest used 148 KB in a run and 1.84 MB there (docs/CHECK.md).
  *
  * C can't say what the proofs rely on, so the caller owes it: a pointer isn't null, not even with length 0, and points
- * to as many aligned elements as its length says; what is lent to be written (workspace, rows, words, output) overlaps
- * nothing else that is passed. */
+ * to as many aligned elements as its length says; what is lent to be written (workspace, rows, picks, words, output)
+ * overlaps nothing else that is passed. */
 #ifndef FLAGCOPPER_H
 #define FLAGCOPPER_H
 
@@ -91,6 +91,22 @@ flagcopper_told flagcopper_run(const uint8_t *script, size_t script_bytes, const
 /* The same, with a row for each step taken, as many whole rows as fit; the rest of the rows isn't written. */
 flagcopper_told flagcopper_trace(const uint8_t *script, size_t script_bytes, const uint8_t *choices, size_t count,
                                  uint64_t *workspace, size_t workspace_words, uint32_t *rows, size_t row_words);
+
+typedef struct {
+    flagcopper_told told;
+    size_t picked; /* choices: the steps, and one more where a step stopped the run, for a fault or room; 0 where refused */
+} flagcopper_turned;
+
+/* Checks and runs with turns taken fairly: the run picks its own choices, at most as many as `picks` has bytes. Movable
+ * commands queue, at first left to right. The front one moves, and the commands that its step put into control go to the
+ * back, left to right; an atom that is entered is one turn up to the step that leaves it, and inside it the leftmost moves.
+ * So a command with k others ahead of it moves at turn k + 1, unless an atom entered meanwhile never ends or the run stops.
+ *
+ * The choices are the first `picked` bytes of `picks`, with the one for a step that then stopped the run; its other bytes are
+ * neither read nor written. flagcopper_run on them gives the same answer and words. End 5 never comes; 4 comes when as many
+ * steps were taken as `picks` has bytes and the run isn't done. A refusal writes nothing. */
+flagcopper_turned flagcopper_fair(const uint8_t *script, size_t script_bytes, uint8_t *picks, size_t pick_bytes,
+                                  uint64_t *workspace, size_t workspace_words);
 
 /* ---- written scripts: from MiniOO text and a list of fields to the script's bytes, its image
  *

@@ -2,13 +2,15 @@
  * output, until the input ends. The other side is src/library/bridged.rs.
  *
  * A call is a struct of words and then two things that are given and two that are lent, each of as many bytes as the struct says:
- * script, choices, workspace and rows, or text, list, words and output, or image, list, nothing and output. The answer is as many words as the struct has, then the two
- * that were lent, whole, so that what the library must not touch is seen too. */
+ * script, choices, workspace and rows, or script, nothing, workspace and picks, or text, list, words and output, or image, list, nothing
+ * and output. The answer is seven words, then the two that were lent, whole, so that what the library must not touch is seen too. */
 #include "flagcopper.h"
 #include <stdio.h>
 #include <stdlib.h>
 
-enum { SIZE = 1, CHECK = 2, RUN = 3, TRACE = 4, READ_WORDS = 5, READ = 6, WRITE = 7 };
+enum { SIZE = 1, CHECK = 2, RUN = 3, TRACE = 4, READ_WORDS = 5, READ = 6, WRITE = 7, FAIR = 8 };
+
+enum { WORDS = 7 };
 
 /* Memory with so many bytes of the input: not null, not even for none. */
 static void *lent(size_t bytes) {
@@ -25,9 +27,9 @@ static void give(const void *memory, size_t bytes) {
     }
 }
 
-static void give_told(flagcopper_told told) {
-    const uint64_t words[6] = {told.refusal, told.place, told.end, told.number, told.node, told.steps};
-    give(words, sizeof words);
+static void give_told(flagcopper_told told, size_t picked) {
+    const uint64_t answer[WORDS] = {told.refusal, told.place, told.end, told.number, told.node, told.steps, picked};
+    give(answer, sizeof answer);
 }
 
 int main(void) {
@@ -39,29 +41,34 @@ int main(void) {
         void *workspace = lent(call.first_lent), *rows = lent(call.second_lent);
         size_t words = call.first_lent / sizeof(uint64_t);
         if (call.function == SIZE) {
-            const uint64_t answer[6] = {flagcopper_size()};
+            const uint64_t answer[WORDS] = {flagcopper_size()};
             give(answer, sizeof answer);
         } else if (call.function == CHECK) {
             flagcopper_checked checked = flagcopper_check(script, call.first_given, call.number);
-            const uint64_t answer[6] = {checked.verdict, checked.number, checked.place};
+            const uint64_t answer[WORDS] = {checked.verdict, checked.number, checked.place};
             give(answer, sizeof answer);
         } else if (call.function == RUN) {
-            give_told(flagcopper_run(script, call.first_given, choices, call.second_given, workspace, words));
+            give_told(flagcopper_run(script, call.first_given, choices, call.second_given, workspace, words), 0);
         } else if (call.function == TRACE) {
             give_told(flagcopper_trace(script, call.first_given, choices, call.second_given, workspace, words, rows,
-                                       call.second_lent / sizeof(uint32_t)));
+                                       call.second_lent / sizeof(uint32_t)),
+                      0);
+        } else if (call.function == FAIR) {
+            flagcopper_turned turned =
+                flagcopper_fair(script, call.first_given, rows, call.second_lent, workspace, words);
+            give_told(turned.told, turned.picked);
         } else if (call.function == READ_WORDS) {
-            const uint64_t answer[6] = {flagcopper_read_words(call.number)};
+            const uint64_t answer[WORDS] = {flagcopper_read_words(call.number)};
             give(answer, sizeof answer);
         } else if (call.function == READ) {
             flagcopper_reading reading = flagcopper_read(script, call.first_given, choices, call.second_given, workspace,
                                                          call.first_lent / sizeof(uint32_t), rows, call.second_lent);
-            const uint64_t answer[6] = {reading.verdict, reading.number, reading.line, reading.length};
+            const uint64_t answer[WORDS] = {reading.verdict, reading.number, reading.line, reading.length};
             give(answer, sizeof answer);
         } else if (call.function == WRITE) {
             flagcopper_text text =
                 flagcopper_write(script, call.first_given, choices, call.second_given, rows, call.second_lent);
-            const uint64_t answer[6] = {text.verdict, text.number, text.length};
+            const uint64_t answer[WORDS] = {text.verdict, text.number, text.length};
             give(answer, sizeof answer);
         } else {
             return EXIT_FAILURE;

@@ -1,4 +1,4 @@
-/* How much stack the check and a run use: each is called on a stack of its own, filled with a pattern, and the lowest byte
+/* How much stack the check, a run and a fair run use: each is called on a stack of its own, filled with a pattern, and the lowest byte
  * that it wrote counts. It ends with 1 when a run takes more stack because it compares long bodies (order 3 of document 02), or
  * doesn't come to compare them.
  * Built and run in the repository's root after `rt staticlib capi`, in less than a second:
@@ -116,6 +116,11 @@ static const uint8_t choices[2] = {0, 0};
 
 static void run(void) { told = flagcopper_run(script, script_bytes, choices, 2, workspace, FLAGCOPPER_SIZE); }
 
+static void fair(void) {
+    static uint8_t picks[sizeof choices];
+    told = flagcopper_fair(script, script_bytes, picks, sizeof picks, workspace, FLAGCOPPER_SIZE).told;
+}
+
 /* The run without choices: it checks and takes no step. */
 static void start(void) { told = flagcopper_run(script, script_bytes, choices, 0, workspace, FLAGCOPPER_SIZE); }
 
@@ -151,9 +156,9 @@ static void report_check(void) {
 }
 
 static void report_run(const char *what) {
-    size_t used = used_by(run);
-    printf("the run of %s, %u nodes: %zu bytes, refusal %u end %u number %u steps %zu\n", what, nodes, used,
-           (unsigned)told.refusal, (unsigned)told.end, (unsigned)told.number, told.steps);
+    size_t fairly = used_by(fair), used = used_by(run);
+    printf("the run of %s, %u nodes: %zu bytes, by fair turns %zu, refusal %u end %u number %u steps %zu\n", what, nodes, used,
+           fairly, (unsigned)told.refusal, (unsigned)told.end, (unsigned)told.number, told.steps);
 }
 
 /* A name's cell is assigned an expression of pairs. */

@@ -1,10 +1,11 @@
 //! The comparison: two subjects get the same case in memory that holds the same pattern, and must agree on verdict, answer,
-//! rows and every word of the workspace, those past its size included.
+//! rows and every word of the workspace, those past its size included; and where both take turns fairly, on how many choices are
+//! picked and on every byte of the list, with which the base run must then come to the same.
 
 use crate::generate::{case, Case};
 use crate::image::{children, kind, Image, Kind};
 use crate::search::{Compared, Found, Tally};
-use crate::subject::{Answer, Subject, ROW};
+use crate::subject::{Answer, Fair, Subject, Turned, ROW};
 
 /// What a subject made of a case by one of the calls.
 #[derive(PartialEq, Eq)]
@@ -12,6 +13,13 @@ struct Outcome {
     answer: Answer,
     workspace: Vec<u64>,
     rows: Vec<u32>,
+}
+
+/// What a subject made of it by taking turns fairly.
+struct Fairly {
+    turned: Turned,
+    workspace: Vec<u64>,
+    picks: Vec<u8>,
 }
 
 fn pattern(case: &Case, length: usize) -> impl Iterator<Item = u64> + '_ {
@@ -30,9 +38,17 @@ fn outcome(subject: &dyn Subject, case: &Case, with_rows: bool) -> Outcome {
     Outcome { answer, workspace, rows }
 }
 
+fn fairly(subject: &dyn Fair, case: &Case) -> Fairly {
+    let mut workspace: Vec<u64> = pattern(case, case.words).collect();
+    let mut picks: Vec<u8> = pattern(case, case.picks).map(|word| word as u8).collect();
+    let turned = subject.fair(&case.script, &mut picks, &mut workspace);
+    Fairly { turned, workspace, picks }
+}
+
 /// The first difference between the reference and a subject on a case, in words.
-pub fn difference(reference: &dyn Subject, subject: &dyn Subject, case: &Case) -> Option<String> {
+pub fn difference(reference: &dyn Fair, subject: &dyn Subject, case: &Case) -> Option<String> {
     differs(outcome(reference, case, true), subject, case)
+        .or_else(|| turns_differ(&fairly(reference, case), subject.as_fair()?, case))
 }
 
 fn differs(wanted: Outcome, subject: &dyn Subject, case: &Case) -> Option<String> {
@@ -49,9 +65,25 @@ fn differs(wanted: Outcome, subject: &dyn Subject, case: &Case) -> Option<String
     })
 }
 
+fn turns_differ(wanted: &Fairly, subject: &dyn Fair, case: &Case) -> Option<String> {
+    let given = fairly(subject, case);
+    if wanted.turned != given.turned {
+        return Some(format!("fair: {:?} in place of {:?}", given.turned, wanted.turned));
+    }
+    if let Some(place) = first_other(&wanted.picks, &given.picks) {
+        return Some(format!("fair: pick {place} is {} in place of {}", given.picks[place], wanted.picks[place]));
+    }
+    let again = Case { choices: given.picks[..given.turned.picked].to_vec(), ..case.clone() };
+    words_apart("fair", &wanted.workspace, &given.workspace).or_else(|| {
+        let Outcome { answer, workspace, .. } = outcome(subject, &again, false);
+        answers_apart("run on the picks", &wanted.turned.answer, &answer)
+            .or_else(|| words_apart("run on the picks", &wanted.workspace, &workspace))
+    })
+}
+
 fn told_apart(call: &str, wanted: &Outcome, given: &Outcome) -> Option<String> {
-    if wanted.answer != given.answer {
-        return Some(format!("{call}: {:?} in place of {:?}", given.answer, wanted.answer));
+    if let Some(how) = answers_apart(call, &wanted.answer, &given.answer) {
+        return Some(how);
     }
     if let Some(place) = first_other(&wanted.rows, &given.rows) {
         let (row, word) = (place / ROW, place % ROW);
@@ -60,8 +92,16 @@ fn told_apart(call: &str, wanted: &Outcome, given: &Outcome) -> Option<String> {
             given.rows[place], wanted.rows[place]
         ));
     }
-    let place = first_other(&wanted.workspace, &given.workspace)?;
-    let (word, right) = (given.workspace[place], wanted.workspace[place]);
+    words_apart(call, &wanted.workspace, &given.workspace)
+}
+
+fn answers_apart(call: &str, wanted: &Answer, given: &Answer) -> Option<String> {
+    (wanted != given).then(|| format!("{call}: {given:?} in place of {wanted:?}"))
+}
+
+fn words_apart(call: &str, wanted: &[u64], given: &[u64]) -> Option<String> {
+    let place = first_other(wanted, given)?;
+    let (word, right) = (given[place], wanted[place]);
     Some(format!("{call}: workspace word {place} is {word:#x} in place of {right:#x}"))
 }
 
@@ -106,7 +146,7 @@ fn stored_part(script: &[u8], mut node: usize) -> Option<&'static str> {
 
 /// Compares on generated cases of the seed until they differ or the cases are used up; `progress` hears of each case.
 pub fn search(
-    reference: &dyn Subject,
+    reference: &dyn Fair,
     subject: &dyn Subject,
     seed: u64,
     cases: std::ops::Range<u64>,
@@ -114,8 +154,15 @@ pub fn search(
 ) -> (Tally, Option<Found<Case>>) {
     let compared = |case: &Case| {
         let wanted = outcome(reference, case, true);
-        let (met, amount) = (met(case, &wanted), wanted.answer.steps);
-        Compared { met, amount, how: differs(wanted, subject, case) }
+        let (mut met, mut amount) = (met(case, &wanted), wanted.answer.steps);
+        let mut how = differs(wanted, subject, case);
+        if let Some(subject) = subject.as_fair() {
+            let wanted = fairly(reference, case);
+            met.extend((wanted.turned.answer.refusal == 0).then(|| format!("fair: {}", told(&wanted.turned.answer))));
+            amount += wanted.turned.answer.steps;
+            how = how.or_else(|| turns_differ(&wanted, subject, case));
+        }
+        Compared { met, amount, how }
     };
     crate::search::search(seed, cases, Tally::of_unit("steps"), case, compared, progress)
 }

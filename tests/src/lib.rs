@@ -3,10 +3,10 @@
 //! generated, damaged and arbitrary. And the same for the reading of written scripts, order 1 of document 02.
 //!
 //! Reading order: `subject` (what is compared), `image`, `assemble` and `parse` (scripts), `independent` (the reference),
-//! `flat` (the measure of speed), `generate`, `search`, `compare` and `shrink`; `readback` (the state in the words of a run); `stops` and
-//! `bodies` (scripts by hand of orders 2 and 3), `comparisons` (what a run compares). For written
-//! scripts `written` (the reference), `chart` (the second opinion), `generate::written` and `reading` (their comparison), `worked` (texts by hand)
-//! and `encoding` (what the program `encode` prints).
+//! `flat` (the measure of speed), `generate`, `search`, `compare` and `shrink`; `readback` (the state in the words of a run); `stops`,
+//! `bodies` and `worked_turns` (scripts by hand of orders 2, 3 and 4), `comparisons` (what a run compares), `turns` (the turns of a fair run) and `met` (how often something is met). For written
+//! scripts `written` (the reference), `chart` (the second opinion), `generate::written` and `reading` (their comparison), `worked` (texts by hand).
+//! For programs `outside` (a folder before and after), `encoding` and `turning` (what `encode` and `turns` print and make).
 
 pub mod arguments;
 pub mod assemble;
@@ -22,6 +22,8 @@ pub mod independent;
 pub mod lanes;
 #[cfg(feature = "library")]
 pub mod library;
+pub mod met;
+pub mod outside;
 pub mod parse;
 pub mod random;
 pub mod readback;
@@ -30,6 +32,9 @@ pub mod search;
 pub mod shrink;
 pub mod stops;
 pub mod subject;
+pub mod turning;
+pub mod turns;
 pub mod worked;
+pub mod worked_turns;
 pub mod written;
 pub mod x86;

@@ -5,7 +5,7 @@ mod bridged;
 #[cfg(target_arch = "x86_64")]
 mod linked;
 
-use crate::subject::{Answer, Reader, Reading, Refusal, Subject, Verdict};
+use crate::subject::{Answer, Fair, Reader, Reading, Refusal, Subject, Turned, Verdict};
 #[cfg(not(target_arch = "x86_64"))]
 use bridged as reached;
 #[cfg(target_arch = "x86_64")]
@@ -27,6 +27,12 @@ struct RawAnswer {
     number: u32,
     node: u32,
     steps: usize,
+}
+
+#[repr(C)]
+struct RawTurned {
+    told: RawAnswer,
+    picked: usize,
 }
 
 #[derive(Debug)]
@@ -85,6 +91,17 @@ impl Subject for Library {
 
     fn trace(&self, script: &[u8], choices: &[u8], workspace: &mut [u64], rows: &mut [u32]) -> Answer {
         answer(reached::trace(script, choices, workspace, rows))
+    }
+
+    fn as_fair(&self) -> Option<&dyn Fair> {
+        Some(self)
+    }
+}
+
+impl Fair for Library {
+    fn fair(&self, script: &[u8], picks: &mut [u8], workspace: &mut [u64]) -> Turned {
+        let RawTurned { told, picked } = reached::fair(script, picks, workspace);
+        Turned { answer: answer(told), picked }
     }
 }
 

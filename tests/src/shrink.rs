@@ -31,11 +31,13 @@ impl Smaller for Case {
     }
 }
 
-/// Cases with nodes or choices taken away.
+/// Cases with nodes, choices or room for picks taken away.
 fn smaller(case: &Case) -> impl Iterator<Item = Case> + '_ {
     let lent = Case { words: SIZE, rows: 0, pattern: 0, ..case.clone() };
     let lent = (case.words >= SIZE && *case != lent).then_some(lent);
     let choices = fewer(&case.choices).map(|choices| Case { choices, ..case.clone() });
+    let shorter = [0, case.picks / 2, case.picks.saturating_sub(1)].into_iter().filter(|&picks| picks < case.picks);
+    let picks = shorter.map(|picks| Case { picks, ..case.clone() });
     let zeroed = (0..case.choices.len()).filter(|&at| case.choices[at] != 0).map(|at| {
         let mut choices = case.choices.clone();
         choices[at] = 0;
@@ -47,7 +49,7 @@ fn smaller(case: &Case) -> impl Iterator<Item = Case> + '_ {
         let lower = case.choices.iter().map(|choice| choice.saturating_sub(1)).collect();
         [with(case.choices.clone()), with(lower), with(vec![0; case.choices.len()])]
     });
-    lent.into_iter().chain(scripts).chain(choices).chain(zeroed)
+    lent.into_iter().chain(scripts).chain(choices).chain(zeroed).chain(picks)
 }
 
 /// The list without its second half, quarters, and so on down to single elements.
@@ -118,11 +120,12 @@ pub fn written(case: &Case, remarks: &str) -> String {
         image.nodes.iter().enumerate().map(line).collect()
     });
     format!(
-        "# {remarks}\nscript {}\nchoices {}\nwords {}\nrows {}\npattern {}\n{nodes}",
+        "# {remarks}\nscript {}\nchoices {}\nwords {}\nrows {}\npicks {}\npattern {}\n{nodes}",
         hex(&case.script),
         hex(&case.choices),
         case.words,
         case.rows,
+        case.picks,
         case.pattern
     )
 }
@@ -135,6 +138,7 @@ pub fn read(text: &str) -> Option<Case> {
         choices: unhex(value("choices")?)?,
         words: value("words")?.parse().ok()?,
         rows: value("rows")?.parse().ok()?,
+        picks: value("picks")?.parse().ok()?,
         pattern: value("pattern")?.parse().ok()?,
     })
 }

@@ -40,6 +40,13 @@ impl Answer {
     }
 }
 
+/// The answer of a fair run, and how many choices it picked: they stand at the front of the lent list.
+#[derive(Clone, Copy, Debug, PartialEq, Eq)]
+pub struct Turned {
+    pub answer: Answer,
+    pub picked: usize,
+}
+
 pub trait Subject {
     fn check(&self, script: &[u8], workspace_words: usize) -> Verdict;
 
@@ -47,6 +54,17 @@ pub trait Subject {
 
     /// A run that also writes a row for each step, as many whole rows as fit.
     fn trace(&self, script: &[u8], choices: &[u8], workspace: &mut [u64], rows: &mut [u32]) -> Answer;
+
+    /// The same as one who takes turns fairly; the flat interpreter doesn't.
+    fn as_fair(&self) -> Option<&dyn Fair> {
+        None
+    }
+}
+
+/// A subject that takes turns fairly too, as order 4 says.
+pub trait Fair: Subject {
+    /// A run that picks its own choices, at most as many as there is room for, and writes them into the list.
+    fn fair(&self, script: &[u8], picks: &mut [u8], workspace: &mut [u64]) -> Turned;
 }
 
 /// Words of 4 bytes that the reader of a text of so many bytes is lent: more than what such a text can leave open.

@@ -1,10 +1,9 @@
 //! What the runs of the generated cases compare, counted: they have what order 3 of document 02 is about.
 
 use flagcopper_tests::comparisons::{comparisons, Comparison, Unlike};
-use flagcopper_tests::generate::case;
 use flagcopper_tests::image::{children, Image};
-use flagcopper_tests::random::Random;
-use std::collections::{BTreeMap, BTreeSet};
+use flagcopper_tests::met::Met;
+use std::collections::BTreeSet;
 
 /// How a long body is nested, by what would wait and by its depth.
 fn nesting(comparison: &Comparison) -> Option<&'static str> {
@@ -62,19 +61,6 @@ fn met(comparison: &Comparison, image: &Image) -> Vec<String> {
     met
 }
 
-/// In how many of the cases that `differ` tries in the gate each thing is met.
-fn counted() -> BTreeMap<String, usize> {
-    let mut counts = BTreeMap::new();
-    for number in 0..20_000 {
-        let case = case(&mut Random::of_case(1, number));
-        let Some(image) = Image::of_bytes(&case.script) else { continue };
-        let made = comparisons(&case.script, &case.choices);
-        let all: BTreeSet<String> = made.iter().flat_map(|comparison| met(comparison, &image)).collect();
-        all.into_iter().for_each(|what| *counts.entry(what).or_default() += 1);
-    }
-    counts
-}
-
 /// All that must be met: every way to nest with everything in which bodies can be unlike, and with both answers the numbers
 /// of pairs around the stores' limits, whichever child is taken first, the numbers of nodes, and the body's own.
 fn wanted() -> Vec<String> {
@@ -104,10 +90,9 @@ fn wanted() -> Vec<String> {
 
 #[test]
 fn long_bodies_are_compared() {
-    let counts = counted();
-    for what in wanted() {
-        let count = counts.get(&what).copied().unwrap_or(0);
-        println!("{what}: {count}");
-        assert!(count >= 3, "{what}: {count} times");
-    }
+    let counts = Met::in_the_gates_cases(|case| {
+        let Some(image) = Image::of_bytes(&case.script) else { return BTreeSet::new() };
+        comparisons(&case.script, &case.choices).iter().flat_map(|comparison| met(comparison, &image)).collect()
+    });
+    counts.has_all(&wanted(), 3);
 }

@@ -107,5 +107,10 @@ fn the_right_ones_agree_and_every_answer_is_met() {
         for what in answers.iter().map(String::as_str).chain(["done", "used up", "out of range"]).chain(faults) {
             assert!(tally.of(what) >= 5, "{what} is met {} times", tally.of(what));
         }
+        let ends = [&["done".to_string(), "used up".to_string()][..], &answers[10..]].concat();
+        for what in ends.iter().filter(|_| subject.as_fair().is_some()).map(|end| format!("fair: {end}")) {
+            assert!(tally.of(&what) >= 5, "{what} is met {} times", tally.of(&what));
+        }
+        assert_eq!(tally.of("fair: out of range"), 0);
     }
 }

@@ -10,6 +10,7 @@ use rules::SIZE;
 use rules::Stop;
 use rules::Verdict;
 use told::Checked;
+use told::Fair;
 use told::Told;
 ghost use mathlib.Core.Path.{_≡_};
 ghost use lib.ListN.{length};
@@ -20,7 +21,7 @@ ghost use Rattle.rules.specs.Refusals.{check as checkOf};
 ghost use Rattle.rules.specs.State.{size as sizeOf};
 ghost use Rattle.rules.specs.Run.{answerOf};
 ghost use Rattle.words.specs.Lent.{wordsAfter, rowsAfter};
-ghost use Rattle.told.specs.Told.{checkedOf, toldOf};
+ghost use Rattle.told.specs.Told.{checkedOf, toldOf, TellsFair};
 
 // No place and no node: both count from 0, so zero would be a real one.
 const NOWHERE: u32 = 4294967295;
@@ -163,4 +164,18 @@ pub extern "C" fn flagcopper_trace(
     ensures { λ r. ⌜ now (rows .exit) ≡ rowsAfter (length (now (workspace .entry))) (now (script .entry)) (now (choices .entry)) (now (rows .entry)) ⌝ }
 {
     tell(interpreter::trace(script, choices, workspace, rows))
+}
+
+// Check, and run with turns taken fairly: the choices picked go to `picks`.
+#[no_mangle]
+pub extern "C" fn flagcopper_fair(script: &[u8], picks: &mut [u8], workspace: &mut [u64]) -> Fair
+    ensures { λ r. ⌜ TellsFair (now (script .entry)) r (now (picks .entry)) (now (picks .exit)) (now (workspace .entry)) (now (workspace .exit)) ⌝ }
+{
+    let r = interpreter::fair(script, picks, workspace);
+    let answer = r.answer;
+    let told = tell(answer);
+    Fair {
+        told: told,
+        picked: r.picked,
+    }
 }

@@ -58,5 +58,3 @@ module _ (img : List ℕ) (n : ℕ) (r : Row) (w : Node) where
       not-blank i = rw (words-are, ← e, h, ← g, i)
 
 pub ruleset threes = (first-fails, second-fails, third-says)
-
-pub ruleset wording = (all-fit, not-right, not-blank)

@@ -23,7 +23,7 @@ use Rattle.rules.specs.declared.Row.{Row}
 use Rattle.rules.specs.Image.{rowOf, kindOf, nodesOf, codeAt, nodeAt}
 use Rattle.rules.specs.Refusals.{badCode, noRow, blank, stains, sameKind, isKind, suits, misfits, badUse, atPlace, ruleOf, rule}
 use Rattle.checklaws.specs.Counts.{Counts}
-use Rattle.checklaws.specs.Pieces.{refusal, codeRules, nodeRules, useRules, placeSays, fitsWord, wordsReason, childKind, kindIndex}
+use Rattle.checklaws.specs.Pieces.{refusal, codeRules, nodeRules, useRules, placeSays, fitsWord, wordsReason, kindIndex}
 
 -- ---- codes
 
@@ -114,15 +114,6 @@ pub same-kind : (k j : Kind) (x y : ℕ) → x ≡ kindIndex k → y ≡ kindInd
 unfolding isKind
 same-kind k j x y e f = rw (e, f) (same-number k j)
 
--- a child is right when its kind is
-pub child-right : (img : List ℕ) (n w : ℕ) (p : Role) (k : Kind) (o : Option Kind) (b : Bool) → p ≡ Child k → o ≡ childKind img n w → b ≡ isKind k o → b ≡ suits img n p w
-unfolding childKind suits isKind
-child-right img n w p k o b e f h = h ∙ rw (e, f) (go (ltb w n))
-  where
-    go : (b : Bool) → isKind k (cond b (kindOf (nodeAt img w .tag)) none) ≡ (b && isKind k (kindOf (nodeAt img w .tag)))
-    go true = refl
-    go false = refl
-
 -- the roles of a word that the tag's row lists
 pub blank-other : (p : Role) (w : ℕ) → OneOf (1 ∷ 2 ∷ 3 ∷ 4 ∷ 5 ∷ []) (tagOf the-type p) → true ≡ blank p w
 unfolding blank
@@ -133,7 +124,7 @@ blank-other Uses w h = refl
 blank-other Binds w h = refl
 blank-other (Child k) w h = refl
 
--- a word fits where it isn't listed and is zero, or is listed and right
+-- a word that isn't listed fits where it is zero
 and-true : (b : Bool) → b ≡ (b && true)
 and-true true = refl
 and-true false = refl
@@ -141,10 +132,6 @@ and-true false = refl
 pub fits-unused : (img : List ℕ) (n w : ℕ) (p : Role) → p ≡ Unused → eqb w 0 ≡ fitsWord img n p w
 unfolding fitsWord blank suits
 fits-unused img n w p e = rw e (and-true (eqb w 0))
-
-pub fits-other : (img : List ℕ) (n w : ℕ) (p : Role) (b : Bool) → OneOf (1 ∷ 2 ∷ 3 ∷ 4 ∷ 5 ∷ []) (tagOf the-type p) → b ≡ suits img n p w → b ≡ fitsWord img n p w
-unfolding fitsWord
-fits-other img n w p b o e = rw (← blank-other p w o) e
 
 -- ---- uses
 

@@ -3,7 +3,6 @@
 -- of the full size; only 9 looks at the names visible at the root, so those of the others are stated for none. That the pieces make the check is shown in proofs/Whole. Assumes nothing.
 use Prim.Native.Nat.{ℕ}
 use mathlib.Core.Bool.{Bool, cond, not, _&&_}
-use mathlib.Core.Option.{Option, none}
 use mathlib.Core.List.{List, [], _∷_}
 use lib.ListN.{length}
 use lib.Dec.{eqb, ltb, leb}
@@ -14,7 +13,7 @@ use Rattle.rules.specs.declared.Kind.{Kind}
 use Rattle.rules.specs.declared.Kind.the-variants.{Exp as anExp, Test as aTest, Cmd as aCmd}
 use Rattle.rules.specs.declared.Role.{Role}
 use Rattle.rules.specs.declared.Row.{Row}
-use Rattle.rules.specs.Image.{kindOf, fieldsOf, namesOf, nodeAt}
+use Rattle.rules.specs.Image.{fieldsOf, namesOf}
 use Rattle.rules.specs.Refusals.{Reason, wrongCode, noSuchTag, unusedWord, wrongOperand, notOnce, undeclared, badContents, rightLength, blank, suits, atPlace, lowest}
 use Rattle.rules.specs.State.{size}
 use Rattle.rules.specs.Scope.{Names}
@@ -64,10 +63,6 @@ wordsReason img n r x =
     cond (blank (r .a) (x .a) && blank (r .b) (x .b) && blank (r .c) (x .c))
     (cond (suits img n (r .a) (x .a) && suits img n (r .b) (x .b) && suits img n (r .c) (x .c)) 0 7)
     6
-
--- the kind of a child of node n; a child that isn't below n has none
-unfoldable pub childKind : List ℕ → ℕ → ℕ → Option Kind
-childKind img n w = cond (ltb w n) (kindOf (nodeAt img w .tag)) none
 
 -- kinds by numbers, to tell them apart
 abbrev pub kindIndex : Kind → ℕ

@@ -22,9 +22,12 @@ use Rattle.text.specs.Written.{Wrote, Line}
 use Rattle.text.proofs.WroteLaws.{both-wrote, wrote-as}
 use Rattle.text.proofs.LineLaws.{line-of, line-same}
 use Rattle.wording.specs.Lines.{noInput, textTooLong, listTooLong, imageLine, refusedLine, rowLine, secondLine}
+use Rattle.filing.specs.Given.{given}
+use Rattle.filing.specs.Names.{mostName}
+use Rattle.filing.proofs.GivenLaws.{is-missing, is-there}
 use Rattle.encoder.specs.Encodes as E
-use Rattle.encoder.specs.Encodes.{mostText, mostList, Short, lentBytes, lentWords, badListLines, badTextLines, Encodes, given}
-use Rattle.encoder.specs.Says.{mostName, mostPrinted, AnswerSays, Shows, IsRefused, RefusalSays}
+use Rattle.encoder.specs.Encodes.{mostText, mostList, Short, lentBytes, lentWords, badListLines, badTextLines, Encodes}
+use Rattle.encoder.specs.Says.{mostPrinted, AnswerSays, Shows, IsRefused, RefusalSays}
 use Rattle.encoder.specs.declared.answer.Answered.{Answered}
 use Rattle.encoder.proofs.FaultLaws.{first-bad-row, refused-between}
 
@@ -191,14 +194,6 @@ module _ (name text list img out : List ℕ) (short : Short text list) where
 
 -- ---- two files
 
-missing : (b : Bool) → not b ≡ true → b ≡ false
-missing true e = sym e
-missing false e = refl
-
-there : (b : Bool) → not b ≡ false → b ≡ true
-there true e = refl
-there false e = sym e
-
 module _ (found also-found : Bool) (name text list img out : List ℕ) (room : mostPrinted ≤ length out) (r : ℕ) (a : Answered) (out′ : List ℕ) (e : a ≡ record { printed = r; image = 0 }) where
   lines-alone : (t l : Option (List ℕ)) (lines : List ℕ) → Encodes name t l lines none → Wrote 64 out 0 lines r out′ → AnswerSays name t l a img out img out′
   lines-alone t l lines x w =
@@ -213,20 +208,20 @@ module _ (found also-found : Bool) (name text list img out : List ℕ) (room : m
       })
 
   pub answers-no-text : not found ≡ true → Wrote 64 out 0 noInput r out′ → AnswerSays name (given found text) (given also-found list) a img out img out′
-  answers-no-text f w = rw (missing found f) (lines-alone none (given also-found list) noInput E.text-missing w)
+  answers-no-text f w = rw (is-missing found text f) (lines-alone none (given also-found list) noInput E.text-missing w)
 
   module _ (f : not found ≡ false) where
     pub answers-no-list : not also-found ≡ true → Wrote 64 out 0 noInput r out′ → AnswerSays name (given found text) (given also-found list) a img out img out′
-    answers-no-list g w = rw (there found f, missing also-found g) (lines-alone (some text) none noInput E.list-missing w)
+    answers-no-list g w = rw (is-there found text f, is-missing also-found list g) (lines-alone (some text) none noInput E.list-missing w)
 
     module _ (g : not also-found ≡ false) where
       pub answers-long-text : mostText < length text → Wrote 64 out 0 textTooLong r out′ → AnswerSays name (given found text) (given also-found list) a img out img out′
-      answers-long-text h w = rw (there found f, there also-found g) (lines-alone (some text) (some list) textTooLong (E.text-too-long h) w)
+      answers-long-text h w = rw (is-there found text f, is-there also-found list g) (lines-alone (some text) (some list) textTooLong (E.text-too-long h) w)
 
       pub answers-long-list : length text ≤ mostText → mostList < length list → Wrote 64 out 0 listTooLong r out′
           → AnswerSays name (given found text) (given also-found list) a img out img out′
-      answers-long-list h i w = rw (there found f, there also-found g) (lines-alone (some text) (some list) listTooLong (E.list-too-long h i) w)
+      answers-long-list h i w = rw (is-there found text f, is-there also-found list g) (lines-alone (some text) (some list) listTooLong (E.list-too-long h i) w)
 
 pub answers-encoded : (found also-found : Bool) (name text list img out img′ out′ : List ℕ) (a : Answered) → not found ≡ false → not also-found ≡ false
     → AnswerSays name (some text) (some list) a img out img′ out′ → AnswerSays name (given found text) (given also-found list) a img out img′ out′
-answers-encoded found also-found name text list img out img′ out′ a f g x = rw (there found f, there also-found g) x
+answers-encoded found also-found name text list img out img′ out′ a f g x = rw (is-there found text f, is-there also-found list g) x

@@ -4,7 +4,6 @@
 -- refusal is for people. Assumes nothing.
 use Prim.Native.Nat.{ℕ, _<_, _≤_}
 use mathlib.Core.Path.{_≡_}
-use mathlib.Core.Bool.{Bool, true, false}
 use mathlib.Core.Option.{Option, none, some}
 use mathlib.Core.List.{List, _++_}
 use lib.ListN.{length}
@@ -62,9 +61,3 @@ pub data Encodes (name : List ℕ) : Option (List ℕ) → Option (List ℕ) →
       → RefusedText fields text (w .why) (w .line)
       → Stops fields text w
       → Encodes name (some text) (some list) (badTextLines text w) none
-
--- ---- a file that is there, with its bytes, or missing
-
-abbrev pub given : Bool → List ℕ → Option (List ℕ)
-given true bytes = some bytes
-given false bytes = none

@@ -11,10 +11,7 @@ use Rattle.reader.specs.declared.why.Why.{Why}
 use Rattle.encoder.specs.Encodes.{lentBytes, lentWords, Encodes}
 use Rattle.encoder.specs.declared.answer.Answered.{Answered}
 
--- the longest of what is printed: a name of 4,096 bytes in its line; a refusal has at most 512
-abbrev pub mostName : ℕ
-mostName = 4096
-
+-- the longest of what is printed: a name of `mostName` bytes in its line; a refusal has at most 512
 abbrev pub mostPrinted : ℕ
 mostPrinted = 4608
 

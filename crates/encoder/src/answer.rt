@@ -15,8 +15,10 @@ ghost use mathlib.Core.Option.{some};
 ghost use Prim.Native.Nat.{_<_, _≤_};
 ghost use lib.ListN.{length};
 ghost use Rattle.text.specs.Written.{Line};
-ghost use Rattle.encoder.specs.Encodes.{lentBytes, lentWords, Short, badListLines, badTextLines, given};
-ghost use Rattle.encoder.specs.Says.{mostName, mostPrinted, Shows, IsRefused, RefusalSays, AnswerSays};
+ghost use Rattle.filing.specs.Given.{given};
+ghost use Rattle.filing.specs.Names.{mostName};
+ghost use Rattle.encoder.specs.Encodes.{lentBytes, lentWords, Short, badListLines, badTextLines};
+ghost use Rattle.encoder.specs.Says.{mostPrinted, Shows, IsRefused, RefusalSays, AnswerSays};
 
 const MOST_TEXT: usize = 262144;
 

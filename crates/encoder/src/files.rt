@@ -1,15 +1,16 @@
 // The two files and the image. Of a text 262,145 bytes are read at the most and of a list 4,097: one more than the limits is enough to see that
-// a file is too long (proofs/Cut). The image is made under a name of its own and takes its place whole, or nothing is changed.
+// a file is too long (proofs/Cut). The image is made whole or not at all.
 use crate::answer::Answered;
 use crate::answer::answer;
-use text::put_text;
+use filing::is_read;
+use filing::make_file;
+use filing::print_lines;
 ghost use mathlib.Core.Path.{_≡_};
 ghost use Prim.Native.Nat.{_≤_};
 ghost use lib.ListN.{length};
-ghost use Rattle.text.specs.Written.{Line};
-ghost use Rattle.wording.specs.Lines.{partName};
+ghost use Rattle.filing.specs.Names.{mostName};
 ghost use Rattle.encoder.specs.Encodes.{lentBytes};
-ghost use Rattle.encoder.specs.Says.{mostName, mostPrinted, Fits};
+ghost use Rattle.encoder.specs.Says.{mostPrinted, Fits};
 
 // Room for the longest text and one byte more.
 fn text_room() -> [u8; 262145]
@@ -36,18 +37,6 @@ fn page() -> [u8; 4608]
     ensures { λ r. ⌜ 4608 ≡ length r ⌝ }
 {
     [0; 4608]
-}
-
-// Whether a file was read to its end, or as far as there is room for it; one that can't be opened or read (a folder, say) is none, and not an empty one.
-fn is_read(fd: i32, count: usize, room: usize) -> bool {
-    if fd < 0 {
-        return false;
-    }
-    if count == room {
-        return true;
-    }
-    let mut byte = [0u8; 1];
-    libc::read(fd, &mut byte) == 0
 }
 
 fn answer_files(text: i32, list: i32, name: &[u8], img: &mut [u8], out: &mut [u8]) -> Answered
@@ -84,71 +73,6 @@ fn answer_paths(text: &[u8], list: &[u8], name: &[u8], img: &mut [u8], out: &mut
     a
 }
 
-// Written whole, and on its device.
-fn put_whole(fd: i32, bytes: &[u8]) -> bool {
-    if !io::write_all(fd, bytes) {
-        return false;
-    }
-    libc::fsync(fd) == 0
-}
-
-// A file of this name with these bytes; where that fails, none.
-fn write_part(part: &[u8], bytes: &[u8]) -> bool {
-    let fd = os::create(part);
-    if fd < 0 {
-        os::fail(part);
-        return false;
-    }
-    if !put_whole(fd, bytes) {
-        os::fail(part);
-        libc::close(fd);
-        os::unlink(part);
-        return false;
-    }
-    if libc::close(fd) != 0 {
-        os::fail(part);
-        os::unlink(part);
-        return false;
-    }
-    true
-}
-
-// It takes its name; where that fails, it goes again.
-fn take_name(part: &[u8], image: &[u8]) -> bool {
-    if os::rename(part, image) != 0 {
-        os::fail(image);
-        os::unlink(part);
-        return false;
-    }
-    true
-}
-
-// The name under which an image is made.
-fn part_name(name: &mut [u8], image: &[u8]) -> usize
-    requires { ⌜ (length (now image) ≤ mostName) × (mostPrinted ≤ length (now name)) ⌝ }
-    ensures { λ r. ⌜ Line mostPrinted (partName (now (image .entry))) (now (name .entry)) r (now (name .exit)) ⌝ }
-{
-    let a = put_text(name, 0, image);
-    put_text(name, a, b".part")
-}
-
-fn write_image(image: &[u8], bytes: &[u8]) -> bool
-    requires { ⌜ length (now image) ≤ mostName ⌝ }
-{
-    let mut name = page();
-    let n = part_name(&mut name, image);
-    if !write_part(&name[..n], bytes) {
-        return false;
-    }
-    take_name(&name[..n], image)
-}
-
-fn print_lines(lines: &[u8]) {
-    if !io::write_all(1, lines) {
-        os::fail(b"standard output");
-    }
-}
-
 // What the program `encode` does with the names that it is given. The lines are printed only after the image stands under its name.
 pub fn encode_paths(text: &[u8], list: &[u8], image: &[u8])
     requires { ⌜ length (now image) ≤ mostName ⌝ }
@@ -159,7 +83,7 @@ pub fn encode_paths(text: &[u8], list: &[u8], image: &[u8])
     let bytes = a.image;
     let lines = a.printed;
     if bytes > 0 {
-        if !write_image(image, &img[..bytes]) {
+        if !make_file(image, &img[..bytes]) {
             return;
         }
     }

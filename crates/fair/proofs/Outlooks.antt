@@ -1,7 +1,7 @@
 -- The customer's sentence, whole: document 02, order 4, "A command with k others ahead of it moves at turn k + 1 at the latest, unless an atom entered
 -- meanwhile never ends or the run stops". Whatever room the list has, the command's turn comes, or one of the k turns before it has no end,
 -- or the list was too short for them (`its-turn-comes`). Its choice is the next one in the list then (`its-choice`); a turn without an end is the run's
--- stop, or an atom still entered with the list full (`unended-run`). Assumes nothing.
+-- stop, or an atom still entered with the list full (`unended-run`). Said of the whole list and the whole run: `picked-before`, `runs-before`. Assumes nothing.
 use Prim.Native.Nat.{ℕ, zero, suc, _+_, _-_, _<_, _≤_}
 use mathlib.Core.Path.{_≡_, refl, sym, ap, subst, _∙_}
 use mathlib.Core.Bool.{Bool, true, false}
@@ -9,21 +9,22 @@ use mathlib.Core.Option.{none, some, Option·some-injective}
 use mathlib.Core.List.{List, [], _∷_, _++_}
 use native.Mathlib.Omega.{arith}
 use lib.ListN.{length, getElem?, length-append}
-use Rattle.rules.specs.declared.Stop.{Stop}
-use Rattle.rules.specs.declared.End.the-variants.{UsedUp, Stopped}
 use Rattle.rules.specs.Control.{Control, atomIn, movable, Outcome, goesTo, stops}
 use Rattle.rules.specs.Step.{Machine, step}
-use Rattle.rules.specs.Run.{Start, Ran, ran, runFrom, begins}
+use Rattle.rules.specs.Run.{Start, ran, runFrom, begins}
 use Rattle.rules.proofs.Runs.{run-used}
+use Rattle.rules.proofs.ControlLaws.{opened-no-atom}
+use Rattle.safety.specs.Reaches.{StartFits}
 use Rattle.safety.proofs.Reaches.{run-reaches}
-use Rattle.fair.specs.FairRun.{Line, firstLine, pickOf, lineAfter, picksOn, picksFrom}
-use Rattle.fair.specs.WholeTurns.{TurnOn, turn-over, leftmost-moves, Turn, Turns, no-turn, turn, Unended, run-stops, still-inside, goes-further, Outlook, its-turn, unended, list-full}
+use Rattle.fair.specs.FairRun.{Line, firstLine, pickOf, lineAfter, picksOn, picksFrom, picks, fair}
+use Rattle.fair.specs.WholeTurns.{TurnOn, turn-over, leftmost-moves, Turn, Turns, no-turn, turn, Unended, run-stops, still-inside, goes-further, Outlook, its-turn, unended, list-full, RunUnended, stopped, inside}
 use Rattle.fair.proofs.Leaves.{calm-moves}
 use Rattle.fair.proofs.Queues.{front-once}
-use Rattle.fair.proofs.Lines.{Between, one-fewer}
+use Rattle.fair.proofs.Lines.{Between, first-between, one-fewer}
 use Rattle.fair.proofs.Turning.{turn-keeps}
 use Rattle.fair.proofs.Moments.{Moment, between, within, next-moment, not-done}
 use Rattle.fair.proofs.Picked.{picks-full, run-on, run-breaks}
+use Rattle.fair.proofs.Ending.{picks-start, fair-start}
 use Rattle.fair.proofs.Waiting.{between-after, between-turns, turn-begins, turns-picks, turns-reach}
 
 module _ {S E : Type 0} (m : Machine S E) where
@@ -154,11 +155,6 @@ module _ {S E : Type 0} (m : Machine S E) where
 
   -- ---- what a turn without an end means for the run
 
-  -- "unless an atom entered meanwhile never ends": the list is full, and it is entered still; "or the run stops"
-  pub data RunUnended (r : Ran S) : Type 0 where
-    stopped : {x : Stop} → r .end ≡ Stopped x → RunUnended r
-    inside : {t : Control} → r .end ≡ UsedUp → r .control ≡ some t → atomIn t ≡ true → RunUnended r
-
   unended-here : (n k : ℕ) (s : S) (t : Control) (l : Line)
       → Unended m l n s t
       → RunUnended (runFrom m (picksFrom m n s (some t) (some l)) k s (some t))
@@ -182,9 +178,24 @@ module _ {S E : Type 0} (m : Machine S E) where
 
   -- ---- the same as any turn of a fair run begins, i whole turns after its start
 
-  pub from-the-start : (st : Start S) (root : ℕ) (l₀ : Line) (i k n c : ℕ) (cs : List ℕ) (s : S) (t : Control) (l : Line)
-      → firstLine (begins m st root) ≡ some l₀
-      → Turns m s t l i cs (st .store) (begins m st root) l₀
-      → getElem? (l .front ∷ l .rest) k ≡ some c
-      → Outlook m c k n s t l
-  from-the-start st root l₀ i k n c cs s t l e r d = its-turn-comes k n c s t l (turn-begins m st root l₀ i cs s t l e r) d
+  module _ (st : Start S) (root : ℕ) (l₀ : Line) (i : ℕ) (ds : List ℕ) (s : S) (t : Control) (l : Line)
+      (first : firstLine (begins m st root) ≡ some l₀)
+      (turns : Turns m s t l i ds (st .store) (begins m st root) l₀) where
+    pub from-the-start : (k n c : ℕ) → getElem? (l .front ∷ l .rest) k ≡ some c → Outlook m c k n s t l
+    from-the-start k n c d = its-turn-comes k n c s t l (turn-begins m st root l₀ i ds s t l first turns) d
+
+    begun : Between (begins m st root) l₀
+    unfolding begins
+    begun = first-between (begins m st root) l₀ (opened-no-atom (m .cmdAt root) (st .chain)) first
+
+    -- the choices of the turns before it are the first that are picked
+    pub picked-before : StartFits m st root → (n : ℕ) → picks m (length ds + n) st root ≡ ds ++ picksFrom m n s (some t) (some l)
+    picked-before h n = picks-start m (length ds + n) st root h ∙ rw first (turns-picks m s t l i ds (st .store) (begins m st root) l₀ turns begun n)
+
+    -- and the run goes on from there
+    pub runs-before : StartFits m st root → (n : ℕ)
+        → fair m (length ds + n) st root ≡ runFrom m (picksFrom m n s (some t) (some l)) (0 + length ds) s (some t)
+    runs-before h n =
+        fair-start m (length ds + n) st root h
+        ∙ rw (first, turns-picks m s t l i ds (st .store) (begins m st root) l₀ turns begun n)
+        (run-reaches m s (some t) ds (st .store) (some (begins m st root)) (turns-reach m s t l i ds (st .store) (begins m st root) l₀ turns) (picksFrom m n s (some t) (some l)) 0)

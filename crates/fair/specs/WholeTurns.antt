@@ -8,8 +8,10 @@ use mathlib.Core.Option.{some}
 use mathlib.Core.List.{List, [], _∷_, _++_}
 use lib.ListN.{length, getElem?}
 use Rattle.rules.specs.declared.Stop.{Stop}
+use Rattle.rules.specs.declared.End.the-variants.{UsedUp, Stopped}
 use Rattle.rules.specs.Control.{Control, atomIn, movable, goesTo, stops}
 use Rattle.rules.specs.Step.{Machine, step}
+use Rattle.rules.specs.Run.{Ran}
 use Rattle.fair.specs.FairRun.{Line, pickOf, lineAfter}
 
 module _ {S E : Type 0} (m : Machine S E) where
@@ -73,3 +75,10 @@ module _ {S E : Type 0} (m : Machine S E) where
         → j ≤ k
         → length cs ≡ n
         → Outlook c k n s t l
+
+-- ---- what a turn without an end means for the run
+
+-- "unless an atom entered meanwhile never ends": the list is full, and it is entered still; "or the run stops"
+pub data RunUnended {S : Type 0} (r : Ran S) : Type 0 where
+  stopped : {x : Stop} → r .end ≡ Stopped x → RunUnended r
+  inside : {t : Control} → r .end ≡ UsedUp → r .control ≡ some t → atomIn t ≡ true → RunUnended r

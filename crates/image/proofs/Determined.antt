@@ -1,5 +1,5 @@
 -- The contracts of this crate decide every answer: two answers that meet the same contract are equal. Those of `wide`,
--- `word`, `fields`, `nodes`, `names` and `code` are equations `r ≡ f ..`, and their bounds follow; for the others it is
+-- `word`, `fields`, `nodes`, `names`, `code` and `tag_of` are equations `r ≡ f ..`, and their bounds follow; for the others it is
 -- shown here. Assumes nothing.
 use Prim.Native.Nat.{ℕ}
 use mathlib.Core.Path.{_≡_, refl, sym, _∙_}

@@ -11,7 +11,7 @@ ghost use mathlib.Core.Path.{_≡_};
 ghost use Prim.Native.Nat.{_+_, _*_, _<_, _≤_};
 ghost use mathlib.Core.Option.{some};
 ghost use lib.ListN.{length};
-ghost use Rattle.rules.specs.Image.{wordAt, fieldsOf, nodesOf, namesOf, codeAt, partOf, kindOf, row, rowOf};
+ghost use Rattle.rules.specs.Image.{wordAt, fieldsOf, nodesOf, namesOf, codeAt, partOf, nodeAt, kindOf, row, rowOf};
 ghost use Rattle.rules.proofs.GoodFacts.{Sized};
 ghost use Rattle.image.specs.Read.{NodeRead};
 ghost use Rattle.image.specs.Tags.{kindIs, rowIs};
@@ -106,6 +106,17 @@ pub fn read(img: &[u8], n: usize) -> Node
         b: part(img, from, n, 2),
         c: part(img, from, n, 3),
     }
+}
+
+// The tag of a node alone, for those who read its other words only where the tag says what they are: loaded in every case, they
+// take registers from all of them.
+pub fn tag_of(img: &[u8], n: usize) -> usize
+    requires { ⌜ Sized (now img) ⌝ }
+    requires { ⌜ n < nodesOf (now img) ⌝ }
+    ensures { λ r. ⌜ r ≡ nodeAt (now (img .entry)) n .tag ⌝ }
+{
+    let from = nodes_at(img);
+    part(img, from, n, 0)
 }
 
 // "Tags 1 to 7 are expressions, 16 to 19 tests, 32 to 42 commands; no other number is a tag."

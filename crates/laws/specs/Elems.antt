@@ -2,10 +2,10 @@
 -- in a list made of two it is the one of the first part or of the second. Assumes nothing.
 use Prim.Native.Nat.{ℕ, zero, suc, _-_, _<_, _≤_}
 use mathlib.Core.Path.{_≡_, refl, ap, _∙_}
-use mathlib.Core.Option.{none, some, Option·none-ne-some, Option·some-ne-none}
+use mathlib.Core.Option.{none, some, Option·none-ne-some, Option·some-ne-none, Option·some-injective}
 use mathlib.Core.List.{List, [], _∷_, _++_}
 use native.Mathlib.Omega.{arith}
-use lib.ListN.{length, getElem?}
+use lib.ListN.{length, getD, getElem?}
 
 pub elem-lt : {A : Type 0} (l : List A) (i : ℕ) {a : A} → getElem? l i ≡ some a → i < length l
 elem-lt [] i e = absurd (Option·none-ne-some _ e)
@@ -35,3 +35,9 @@ pub elem-second : {A : Type 0} (l r : List A) (i : ℕ) → length l ≤ i → g
 elem-second [] r i h = ap (λ (k : ℕ). getElem? r k) (omega arith)
 elem-second (b ∷ l) r zero h = absurd (omega arith)
 elem-second (b ∷ l) r (suc i) h = elem-second l r i (omega arith) ∙ ap (λ (k : ℕ). getElem? r k) (omega arith)
+
+-- read with a default, it is the same entry
+pub elem-is : {A : Type 0} (l : List A) (i : ℕ) (a d : A) → getElem? l i ≡ some a → getD l i d ≡ a
+elem-is [] i a d e = absurd (Option·none-ne-some a e)
+elem-is (b ∷ l) zero a d e = Option·some-injective b a e
+elem-is (b ∷ l) (suc i) a d e = elem-is l i a d e

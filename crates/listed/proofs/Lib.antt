@@ -1,2 +1,3 @@
 pub mod Example
 pub mod Cases
+pub mod Cut

@@ -2,4 +2,3 @@ pub mod RowCount
 pub mod Listed
 pub mod Printed
 pub mod Cut
-pub mod Cases

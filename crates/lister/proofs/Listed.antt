@@ -56,7 +56,7 @@ module _ (img cs : List ℕ) where
   left = runScript img cs
 
   -- the text of a refused script
-  text-refused : (k p : ℕ) → check [] size img ≡ Refused k p → refusedLine k p ≡ listing img cs
+  pub text-refused : (k p : ℕ) → check [] size img ≡ Refused k p → refusedLine k p ≡ listing img cs
   unfolding listing listingLines linesBy flatten
   text-refused k p e = rw (e, append-nil)
 

@@ -1,6 +1,6 @@
 -- What is printed for two files: a missing one before the number of choices, and that before the script. Assumes nothing.
 use Prim.Native.Nat.{ℕ, _<_, _≤_}
-use mathlib.Core.Path.{_≡_, refl, sym}
+use mathlib.Core.Path.{_≡_, sym}
 use mathlib.Core.Bool.{Bool, true, false, not}
 use mathlib.Core.Option.{some}
 use mathlib.Core.List.{List}
@@ -10,7 +10,8 @@ use borrow.Author.Tests.{le-leb, lt-leb}
 use Rattle.listed.specs.Listing.{noInput, choicesTooLong, listing, mostChoices, printed}
 use Rattle.text.specs.Written.{Line}
 use Rattle.text.proofs.LineLaws.{line-same}
-use Rattle.lister.specs.Given.{given}
+use Rattle.filing.specs.Given.{given}
+use Rattle.filing.proofs.GivenLaws.{is-missing, is-there}
 
 pub printed-whole : (img cs : List ℕ) → length cs ≤ 4096 → printed (some img) (some cs) ≡ listing img cs
 unfolding printed mostChoices
@@ -20,30 +21,22 @@ pub printed-long : (img cs : List ℕ) → 4096 < length cs → printed (some im
 unfolding printed mostChoices
 printed-long img cs h = rw (lt-leb (length cs) 4096 h)
 
-missing : (b : Bool) → not b ≡ true → b ≡ false
-missing true e = sym e
-missing false e = refl
-
-there : (b : Bool) → not b ≡ false → b ≡ true
-there true e = refl
-there false e = sym e
-
 module _ (found also-found : Bool) (img cs : List ℕ) (r : ℕ) (d o : List ℕ) where
   abbrev text : List ℕ
   text = printed (given found img) (given also-found cs)
 
   pub answers-no-script : not found ≡ true → Line 128 noInput d r o → Line 1179904 text d r o
   unfolding printed
-  answers-no-script e w = line-same 128 1179904 r noInput text d o w (rw (missing found e)) (omega arith)
+  answers-no-script e w = line-same 128 1179904 r noInput text d o w (rw (is-missing found img e)) (omega arith)
 
   pub answers-no-choices : not found ≡ false → not also-found ≡ true → Line 128 noInput d r o → Line 1179904 text d r o
   unfolding printed
-  answers-no-choices e f w = line-same 128 1179904 r noInput text d o w (rw (there found e, missing also-found f)) (omega arith)
+  answers-no-choices e f w = line-same 128 1179904 r noInput text d o w (rw (is-there found img e, is-missing also-found cs f)) (omega arith)
 
   pub answers-listing : not found ≡ false → not also-found ≡ false → length cs ≤ 4096 → Line 1179904 (listing img cs) d r o → Line 1179904 text d r o
   answers-listing e f h w =
-      line-same 1179904 1179904 r (listing img cs) text d o w (rw (there found e, there also-found f) (sym (printed-whole img cs h))) (omega arith)
+      line-same 1179904 1179904 r (listing img cs) text d o w (rw (is-there found img e, is-there also-found cs f) (sym (printed-whole img cs h))) (omega arith)
 
   pub answers-long : not found ≡ false → not also-found ≡ false → 4096 < length cs → Line 128 choicesTooLong d r o → Line 1179904 text d r o
   answers-long e f h w =
-      line-same 128 1179904 r choicesTooLong text d o w (rw (there found e, there also-found f) (sym (printed-long img cs h))) (omega arith)
+      line-same 128 1179904 r choicesTooLong text d o w (rw (is-there found img e, is-there also-found cs f) (sym (printed-long img cs h))) (omega arith)

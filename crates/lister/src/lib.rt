@@ -1,6 +1,7 @@
 // The listing of two files: document 01, "Listing". The whole text is made in one buffer, byte for byte what the
 // definition says, and written at once. The buffer holds the longest listing: the header, 4,096 rows, the end, 1,024
 // cells and 4,096 fields, a line of at most 128 bytes each; so nothing is ever cut.
+use filing::print_lines;
 use rules::Answer;
 use rules::SIZE;
 ghost use mathlib.Core.Path.{_≡_};
@@ -8,7 +9,7 @@ ghost use Prim.Native.Nat.{_≤_};
 ghost use lib.ListN.{length};
 ghost use Rattle.listed.specs.Listing.{listing as listingOf, printed};
 ghost use Rattle.text.specs.Written.{Line};
-ghost use Rattle.lister.specs.Given.{given};
+ghost use Rattle.filing.specs.Given.{given};
 
 const MOST_CHOICES: usize = 4096;
 
@@ -73,9 +74,7 @@ fn list_files(script: i32, choices: i32) {
         &picks[..m],
         &mut out,
     );
-    if !io::write_all(1, &out[..k]) {
-        os::fail(b"standard output");
-    }
+    print_lines(&out[..k]);
 }
 
 // The listing of the files at these paths, to standard output. Both are opened before either is read.

@@ -4,3 +4,4 @@ pub mod Promises
 pub mod Excluded
 pub mod WrittenScripts
 pub mod Changed
+pub mod FairTurns

@@ -3,6 +3,7 @@
 -- refusal has no end, an end no refusal; so zeros alone are no answer. Places and nodes count from 0, so one that an
 -- answer doesn't have is `nowhere`: an accepted script has no place, and only a fault has a node. Assumes nothing.
 use Prim.Native.Nat.{ℕ}
+use mathlib.Core.Path.{_≡_}
 use mathlib.Core.List.{List}
 use lib.ListN.{getD}
 use Rattle.rules.specs.declared.Verdict.{Verdict}
@@ -10,8 +11,11 @@ use Rattle.rules.specs.declared.Verdict.the-variants.{Accepted, Refused}
 use Rattle.rules.specs.declared.Answer.{Answer}
 use Rattle.rules.specs.declared.Answer.the-variants.{Refusal, Ending}
 use Rattle.rules.specs.Numbers.{endNo, endValues, verdictNumbers}
+use Rattle.turnwords.specs.declared.Turned.{Turned}
+use Rattle.turnwords.specs.FairContract.{Fairly}
 pub use Rattle.told.specs.declared.Checked.{Checked}
 pub use Rattle.told.specs.declared.Told.{Told}
+pub use Rattle.told.specs.declared.Fair.{Fair}
 
 -- no place and no node: the largest number of 32 bits, far above each
 unfoldable pub nowhere : ℕ
@@ -36,3 +40,10 @@ unfoldable pub toldOf : Answer → Told
 toldOf (Refusal k p) = record { refusal = k; place = p; end = 0; number = 0; node = nowhere; steps = 0 }
 toldOf (Ending e n) =
     record { refusal = 0; place = nowhere; end = endNo e; number = numberIn (endValues e); node = placeIn (endValues e); steps = n }
+
+-- the answer of a fair run, every choice that it picked and every word are the contract's (module FairContract of the crate turnwords)
+pub record TellsFair (img : List ℕ) (f : Fair) (lent lent′ before after : List ℕ) : Type 0 where
+  pub turned : Turned
+  pub told : f .told ≡ toldOf (turned .answer)
+  pub picked : f .picked ≡ turned .picked
+  pub says : Fairly img turned lent lent′ before after

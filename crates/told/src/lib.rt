@@ -20,6 +20,13 @@ pub struct Told {
     pub steps: usize,
 }
 
+// The answer of a fair run, with the number of choices that it picked.
+#[repr(C)]
+pub struct Fair {
+    pub told: Told,
+    pub picked: usize,
+}
+
 // The answer of the reader: verdict 1 is an image with its length, 2 a refusal with its number and line. Lines count from 1; 0 is none.
 #[repr(C)]
 pub struct Written {

@@ -8,15 +8,15 @@ use lib.ListN.{replicate}
 use Rattle.text.specs.Ascii.{ascii}
 use Rattle.text.specs.Text.{digitCountBy, digitCount, decimal, line}
 use Rattle.text.specs.Text.{further as furtherWords}
-use Rattle.wording.specs.Lines.{noInput, textTooLong, listTooLong, imageLine, partName, refusedLine, wordsOf, rowFaults, faults, kinds, rowLine, tells, toldOf, further, joined, couldBe, shown, stood, placeLine, nodesLine, secondLine}
+use Rattle.wording.specs.Lines.{noInput, textTooLong, listTooLong, imageLine, refusedLine, wordsOf, rowFaults, faults, kinds, rowLine, tells, toldOf, further, joined, couldBe, shown, stood, placeLine, nodesLine, secondLine}
 
 -- names every definition of the lines, once
 unfoldable opens : Unit {0}
-unfolding noInput textTooLong listTooLong imageLine partName refusedLine wordsOf rowFaults faults kinds rowLine tells toldOf further joined couldBe shown stood placeLine nodesLine secondLine decimal digitCount digitCountBy line furtherWords
+unfolding noInput textTooLong listTooLong imageLine refusedLine wordsOf rowFaults faults kinds rowLine tells toldOf further joined couldBe shown stood placeLine nodesLine secondLine decimal digitCount digitCountBy line furtherWords
 opens = tt
 
-pub one-line : (noInput ∷ textTooLong ∷ listTooLong ∷ imageLine (ascii "script.img") 34 ∷ partName (ascii "script.img") ∷ [])
-    ≡ (ascii "no input\n" ∷ ascii "text too long\n" ∷ ascii "list too long\n" ∷ ascii "script.img 34 bytes\n" ∷ ascii "script.img.part" ∷ [])
+pub one-line : (noInput ∷ textTooLong ∷ listTooLong ∷ imageLine (ascii "script.img") 34 ∷ [])
+    ≡ (ascii "no input\n" ∷ ascii "text too long\n" ∷ ascii "list too long\n" ∷ ascii "script.img 34 bytes\n" ∷ [])
 unfolding opens
 one-line = refl
 

@@ -24,10 +24,6 @@ listTooLong = line (ascii "list too long" ∷ [])
 unfoldable pub imageLine : List ℕ → ℕ → List ℕ
 imageLine name n = line (name ∷ decimal n ∷ ascii "bytes" ∷ [])
 
--- the name under which an image is made, before it takes its own
-unfoldable pub partName : List ℕ → List ℕ
-partName name = name ++ ascii ".part"
-
 -- the first line of a refusal: its number and its line
 unfoldable pub refusedLine : ℕ → ℕ → List ℕ
 refusedLine k l = line (ascii "refused" ∷ decimal k ∷ ascii "at" ∷ ascii "line" ∷ decimal l ∷ [])

@@ -1,6 +1,6 @@
 //! Nanoseconds a step of each subject on the same scripts in one run, and the library's ratio to the independent interpreter and
-//! to the flat one, which is the measure; how they grow with the script; the check a node; a whole short run with its start-up,
-//! beside the mere clearing of the workspace.
+//! to the flat one, which is the measure; how they grow with the script; a step of a fair run, divided by the same step by a given
+//! choice; the check a node; a whole short run with its start-up, beside the mere clearing of the workspace.
 //!
 //! A step's time is that of a run less that of the same run without choices, so that the check and the clearing of the
 //! workspace don't count. Each time is the least of many short rounds, and what is compared takes turns, round by round:
@@ -102,6 +102,29 @@ impl Bench {
         self.line(what, first.steps, &steps);
     }
 
+    /// A fair step over the same step by a given choice, of each who takes turns fairly.
+    fn fair(&mut self, what: &str, command: &Branch) {
+        let bytes = command.image(&[], 0).bytes();
+        print!("{:<50}", format!("a fair step over a given, {what}"));
+        for (_, subject) in &self.subjects {
+            let Some(subject) = subject.as_fair() else {
+                print!("{:>13}", "");
+                continue;
+            };
+            let (mut picks, workspace) = ([0; 2_000], &mut self.workspace);
+            assert_eq!(subject.fair(&bytes, &mut picks, workspace).picked, picks.len(), "{what}: it has no end");
+            let choices = picks;
+            let times = least(4, |which| match which {
+                0 => seen(subject.fair(&bytes, &mut picks, workspace)),
+                1 => seen(subject.fair(&bytes, &mut [], workspace)),
+                2 => seen(subject.run(&bytes, &choices, workspace)),
+                _ => seen(subject.run(&bytes, &[], workspace)),
+            });
+            print!("{:>13.3}", (times[0] - times[1]) / (times[2] - times[3]));
+        }
+        println!();
+    }
+
     fn check(&mut self, what: &str, image: &Image) {
         let bytes = image.bytes();
         let times = least(self.subjects.len(), |which| seen(self.subjects[which].1.check(&bytes, SIZE)));
@@ -165,9 +188,21 @@ fn migration() -> Image {
     var(1, rounds(30, sequence(object, atom(codes)))).image(&[11, 12, 13], 2)
 }
 
+fn endless() -> Branch {
+    repeat(constant(true), skip())
+}
+
+/// What it takes to pick the choice, with the width of control and inside an atom.
+fn picking(bench: &mut Bench) {
+    for width in [1, 16, 85] {
+        bench.fair(&format!("{width} wide"), &side_by_side(width, &endless()));
+    }
+    bench.fair("in an atom", &atom(endless()));
+    bench.fair("in an atom beside 84", &parallel(atom(endless()), side_by_side(84, &endless())));
+}
+
 /// How a step's time grows: with the width of control, the depth of atoms, the length of a chain and of bodies compared.
 fn growing(bench: &mut Bench) {
-    let endless = || repeat(constant(true), skip());
     for width in [1, 4, 16, 60, 64, 85] {
         let image = side_by_side(width, &endless()).image(&[], 0);
         bench.steps(&format!("parallels, {width} wide, the first moves"), &image, &[0; 2_000]);
@@ -201,6 +236,7 @@ fn main() {
     bench.steps("objects", &script("fields a 1: var x; while true malloc(x)"), &zeros);
     bench.steps(&format!("a migration of {} nodes", migration().nodes.len()), &migration(), &zeros);
     growing(&mut bench);
+    picking(&mut bench);
     for nodes in [10, 100, 1_000] {
         bench.check(&format!("check a node, {} nodes", 2 * nodes - 1), &in_turn(nodes, &skip()).image(&[], 0));
     }

@@ -7,114 +7,28 @@
 use flagcopper_tests::arguments::here_or_against;
 use flagcopper_tests::encoding::{encoding, LONGEST_LIST, LONGEST_TEXT, USAGE};
 use flagcopper_tests::generate::written::{case, Length};
-use flagcopper_tests::lanes::all_right;
+use flagcopper_tests::outside::{with, Files, Outcome, Situation, Trial};
 use flagcopper_tests::random::Random;
-use flagcopper_tests::x86::command;
-use std::collections::BTreeMap;
 use std::io::Result;
-use std::path::Path;
 use std::process::ExitCode;
 
-/// What lies in a folder, by its name; `None` for a folder.
-type Files = BTreeMap<String, Option<Vec<u8>>>;
-
 const NAMES: [&str; 3] = ["script.txt", "fields.txt", "script.img"];
-
-struct Situation {
-    files: Files,
-    arguments: Vec<&'static str>,
-}
-
-#[derive(Debug, PartialEq, Eq)]
-struct Outcome {
-    printed: Vec<u8>,
-    /// Something is said on standard error.
-    complains: bool,
-    files: Files,
-}
 
 // ---- what must come of a situation
 
 fn wanted(situation: &Situation) -> Outcome {
-    let mut files = situation.files.clone();
+    let files = &situation.files;
     let names = match situation.arguments[..] {
         [] => NAMES,
         [text, list, image] => [text, list, image],
-        _ => return Outcome { printed: USAGE.into(), complains: false, files },
+        _ => return Outcome::quiet(USAGE, files),
     };
     let file = |name: &str| files.get(name).and_then(|file| file.as_deref());
     let encoded = encoding(file(names[0]), file(names[1]), names[2]);
-    let Some(image) = encoded.image else {
-        return Outcome { printed: encoded.printed, complains: false, files };
-    };
-    if can_write(&files, names[2]) {
-        files.insert(names[2].to_string(), Some(image));
-        Outcome { printed: encoded.printed, complains: false, files }
-    } else {
-        Outcome { printed: Vec::new(), complains: true, files }
+    match encoded.image {
+        None => Outcome::quiet(encoded.printed, files),
+        Some(image) => Outcome::of_making(files, names[2], image, encoded.printed),
     }
-}
-
-/// The image is made under a name that must be free, and takes the place of a file.
-fn can_write(files: &Files, name: &str) -> bool {
-    let folder = name.rsplit_once('/').is_none_or(|(folder, _)| files.get(folder) == Some(&None));
-    folder && !files.contains_key(&format!("{name}.part")) && files.get(name) != Some(&None)
-}
-
-// ---- what comes of it
-
-/// Empties the folder and puts the files into it.
-fn laid_out(folder: &Path, files: &Files) -> Result<()> {
-    if folder.exists() {
-        std::fs::remove_dir_all(folder)?;
-    }
-    std::fs::create_dir_all(folder)?;
-    files.iter().try_for_each(|(name, bytes)| match bytes {
-        None => std::fs::create_dir(folder.join(name)),
-        Some(bytes) => std::fs::write(folder.join(name), bytes),
-    })
-}
-
-fn found(folder: &Path, before: &str, files: &mut Files) -> Result<()> {
-    for entry in std::fs::read_dir(folder)? {
-        let path = entry?.path();
-        let name = format!("{before}{}", path.file_name().unwrap_or_default().to_string_lossy());
-        if path.is_dir() {
-            found(&path, &format!("{name}/"), files)?;
-            files.insert(name, None);
-        } else {
-            files.insert(name, Some(std::fs::read(&path)?));
-        }
-    }
-    Ok(())
-}
-
-fn outcome(program: &Path, folder: &Path, situation: &Situation) -> Result<Outcome> {
-    laid_out(folder, &situation.files)?;
-    let given = command(program).args(&situation.arguments).current_dir(folder).output()?;
-    let mut files = Files::new();
-    found(folder, "", &mut files)?;
-    Ok(Outcome { printed: given.stdout, complains: !given.stderr.is_empty(), files })
-}
-
-/// Whether the program does what is wanted; if not, the situation stays in the folder and the difference is told.
-fn right(program: &Path, folder: &Path, what: &str, situation: &Situation, wanted: &Outcome) -> Result<bool> {
-    let given = outcome(program, folder, situation)?;
-    if given == *wanted {
-        return Ok(true);
-    }
-    laid_out(folder, &situation.files)?;
-    println!("{what} lies in {}, arguments {:?}", folder.display(), situation.arguments);
-    for (who, outcome) in [("wanted", wanted), ("given", &given)] {
-        let Outcome { printed, complains, files } = outcome;
-        let length = |bytes: &Option<Vec<u8>>| bytes.as_ref().map(Vec::len);
-        let files: Vec<_> = files.iter().map(|(name, bytes)| (name, length(bytes))).collect();
-        println!("{who}, complaining {complains}, with {files:?}:\n{}", String::from_utf8_lossy(printed));
-    }
-    if wanted.files != given.files {
-        println!("the files differ");
-    }
-    Ok(false)
 }
 
 // ---- situations by hand
@@ -126,68 +40,66 @@ fn by_hand() -> Vec<(&'static str, Situation, Outcome)> {
     let given = [("script.txt", Some("var X; X = 1\n")), ("fields.txt", Some(""))];
     let image: &[u8] =
         &[10, 0, 0, 0, 10, 0, 3, 0, 1, 0, 2, 0, 1, 0, 0, 0, 0, 0, 35, 0, 0, 0, 0, 0, 0, 0, 32, 0, 0, 0, 1, 0, 0, 0];
-    let quiet =
-        |printed: &str, files: &Files| Outcome { printed: printed.into(), complains: false, files: files.clone() };
-    let loud = |files: &Files| Outcome { printed: Vec::new(), complains: true, files: files.clone() };
-    let with = |more: &[(&str, Option<&str>)]| files(&[&given[..], more].concat());
-    let made = |mut files: Files, name: &str| {
-        files.insert(name.into(), Some(image.to_vec()));
-        files
-    };
+    let and = |more: &[(&str, Option<&str>)]| files(&[&given[..], more].concat());
+    let made = |files: &Files, name: &str| with(files, name, image);
     let mut all = Vec::new();
     let mut add = |what, files: &Files, arguments: &[&'static str], outcome| {
         all.push((what, Situation { files: files.clone(), arguments: arguments.to_vec() }, outcome));
     };
-    let plain = with(&[]);
-    add("an image", &plain, &[], quiet("script.img 34 bytes\n", &made(plain.clone(), "script.img")));
-    let old = with(&[("script.img", Some("old"))]);
-    add("an old image", &old, &[], quiet("script.img 34 bytes\n", &made(old.clone(), "script.img")));
+    let plain = and(&[]);
+    add("an image", &plain, &[], Outcome::quiet("script.img 34 bytes\n", &made(&plain, "script.img")));
+    let old = and(&[("script.img", Some("old"))]);
+    add("an old image", &old, &[], Outcome::quiet("script.img 34 bytes\n", &made(&old, "script.img")));
     let refused = files(&[
         ("script.txt", Some("var X;\nX = Y.height")),
         ("fields.txt", Some("f,3\n")),
         ("script.img", Some("old")),
     ]);
     let lines = "refused 24 at line 2\nunknown field: height; could be: a name, a field, a number, -, null, proc, (\n";
-    add("a refusal beside an old image", &refused, &[], quiet(lines, &refused));
+    add("a refusal beside an old image", &refused, &[], Outcome::quiet(lines, &refused));
     for arguments in
         [&["script.txt"][..], &["script.txt", "fields.txt"], &["script.txt", "fields.txt", "script.img", "x"]]
     {
-        add("a wrong number of arguments", &old, arguments, quiet("usage: encode [TEXT FIELDS IMAGE]\n", &old));
+        add(
+            "a wrong number of arguments",
+            &old,
+            arguments,
+            Outcome::quiet("usage: encode [TEXT FIELDS IMAGE]\n", &old),
+        );
     }
-    let apart = with(&[("out", None), ("script.img", Some("old"))]);
+    let apart = and(&[("out", None), ("script.img", Some("old"))]);
     let three = ["script.txt", "fields.txt", "out/my image"];
-    add("three arguments", &apart, &three, quiet("out/my image 34 bytes\n", &made(apart.clone(), "out/my image")));
-    add("three arguments, none of them there", &plain, &["a", "b", "c"], quiet("no input\n", &plain));
-    let folder = with(&[("script.img", None)]);
-    add("a folder in the image's place", &folder, &[], loud(&folder));
-    add("a folder that is missing", &plain, &["script.txt", "fields.txt", "out/script.img"], loud(&plain));
-    let part = with(&[("script.img", Some("old")), ("script.img.part", Some("another's"))]);
-    add("a part that is there", &part, &[], loud(&part));
+    add("three arguments", &apart, &three, Outcome::quiet("out/my image 34 bytes\n", &made(&apart, "out/my image")));
+    add("three arguments, none of them there", &plain, &["a", "b", "c"], Outcome::quiet("no input\n", &plain));
+    let folder = and(&[("script.img", None)]);
+    add("a folder in the image's place", &folder, &[], Outcome::loud(&folder));
+    add("a folder that is missing", &plain, &["script.txt", "fields.txt", "out/script.img"], Outcome::loud(&plain));
+    let part = and(&[("script.img", Some("old")), ("script.img.part", Some("another's"))]);
+    add("a part that is there", &part, &[], Outcome::loud(&part));
     let empty = files(&[("script.txt", Some("")), ("fields.txt", Some(""))]);
     let early = "refused 23 at line 1\nearly end; could be: a name, a field, a number, -, null, var, malloc, skip, while, if, atom, (, {\n";
-    add("empty files", &empty, &[], quiet(early, &empty));
+    add("empty files", &empty, &[], Outcome::quiet(early, &empty));
     let long_text = "skip".to_string() + &" ".repeat(LONGEST_TEXT - 4);
     let longer_text = long_text.clone() + "\n";
     let list = |length: usize| format!("f,{:0>1$}\n", 3, length - 3);
     let texts = |text: &str, list: &str| files(&[("script.txt", Some(text)), ("fields.txt", Some(list))]);
     let limit = texts(&long_text, &list(LONGEST_LIST));
     let skip = [10, 0, 1, 0, 12, 0, 1, 0, 0, 0, 3, 0, 37, 0, 0, 0, 0, 0, 0, 0];
-    let mut after = limit.clone();
-    after.insert("script.img".into(), Some(skip.to_vec()));
-    add("as long as allowed", &limit, &[], quiet("script.img 20 bytes\n", &after));
+    let after = with(&limit, "script.img", &skip);
+    add("as long as allowed", &limit, &[], Outcome::quiet("script.img 20 bytes\n", &after));
     let text_too_long = texts(&longer_text, &list(LONGEST_LIST + 1));
-    add("both too long", &text_too_long, &[], quiet("text too long\n", &text_too_long));
+    add("both too long", &text_too_long, &[], Outcome::quiet("text too long\n", &text_too_long));
     let list_too_long = texts("#", &list(LONGEST_LIST + 1));
-    add("the list too long", &list_too_long, &[], quiet("list too long\n", &list_too_long));
+    add("the list too long", &list_too_long, &[], Outcome::quiet("list too long\n", &list_too_long));
     let one = files(&[("script.txt", Some(&longer_text))]);
-    add("a text too long and no list", &one, &[], quiet("no input\n", &one));
+    add("a text too long and no list", &one, &[], Outcome::quiet("no input\n", &one));
     let other = files(&[("fields.txt", Some("f,3\n")), ("script.img", Some("old"))]);
-    add("no text", &other, &[], quiet("no input\n", &other));
+    add("no text", &other, &[], Outcome::quiet("no input\n", &other));
     // a folder can be opened and not read: it is no empty file
     let as_text = files(&[("script.txt", None), ("fields.txt", Some("")), ("script.img", Some("old"))]);
-    add("a folder in the text's place", &as_text, &[], quiet("no input\n", &as_text));
+    add("a folder in the text's place", &as_text, &[], Outcome::quiet("no input\n", &as_text));
     let as_list = files(&[("script.txt", Some("skip")), ("fields.txt", None), ("script.img", Some("old"))]);
-    add("a folder in the list's place", &as_list, &[], quiet("no input\n", &as_list));
+    add("a folder in the list's place", &as_list, &[], Outcome::quiet("no input\n", &as_list));
     all
 }
 
@@ -235,23 +147,9 @@ fn generated(seed: u64, number: u64) -> Situation {
 }
 
 fn compared(program: &str, cases: u64, seed: u64) -> Result<bool> {
-    let program = &std::fs::canonicalize(program)?;
-    let directory = &Path::new(env!("CARGO_MANIFEST_DIR")).join("../target/encodings");
-    let hand = by_hand();
-    hand.iter().for_each(|(what, situation, outcome)| assert_eq!(wanted(situation), *outcome, "{what}"));
-    for (what, situation, outcome) in &hand {
-        if !right(program, &directory.join("hand"), what, situation, outcome)? {
-            return Ok(false);
-        }
-    }
-    let same = all_right(directory, cases, |lane, number| {
-        let situation = generated(seed, number);
-        right(program, lane, &format!("case {number} of seed {seed}"), &situation, &wanted(&situation))
-    })?;
-    if same {
-        println!("{} situations by hand and {cases} of seed {seed} are the same", hand.len());
-    }
-    Ok(same)
+    let program = std::fs::canonicalize(program)?;
+    let trial = Trial { program, directory: "encodings", wanted, also: |_, _, _, _| Ok(true) };
+    trial.compared(&by_hand(), generated, cases, seed)
 }
 
 fn encoded_here() {

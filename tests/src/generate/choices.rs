@@ -1,7 +1,9 @@
-//! Choices: a run is played on the independent interpreter, so that most choices are in range, in one of several manners.
+//! Choices: a run is played on the independent interpreter, so that most choices are in range, in one of several manners. And how many
+//! a fair run may pick.
 
 use crate::independent::check::checked;
 use crate::independent::machine::Machine;
+use crate::independent::turns::fair;
 use crate::random::Random;
 use crate::subject::SIZE;
 use std::rc::Rc;
@@ -62,4 +64,16 @@ fn picked(random: &mut Random, manner: Manner, step: usize, movable: usize, care
         Manner::MostlyFirst => random.below(movable) * random.below(2) * random.below(2),
     };
     position as u8
+}
+
+/// The length of a list for the picks of a fair run: any, or just so many as it picks until it is over, one less or a few more.
+pub fn room_for_picks(random: &mut Random, script: &[u8]) -> usize {
+    let any = random.pick(&[0, 1, 2, 3, 7, 20, 60, 200, 600, 1_200, 3_000, 4_096]);
+    match checked(script, SIZE, None) {
+        Ok(script) if random.once_in(2) => {
+            let (_, picks) = fair(&Rc::new(script), any, None);
+            [picks.len(), picks.len().saturating_sub(1), picks.len() + random.below(10)][random.below(3)]
+        }
+        _ => any,
+    }
 }

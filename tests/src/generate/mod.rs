@@ -2,6 +2,7 @@
 //! choices, the workspace and the rows that go with them.
 
 mod bodies;
+mod branches;
 mod choices;
 mod damage;
 mod express;
@@ -21,6 +22,8 @@ pub struct Case {
     pub words: usize,
     /// The length of the lent rows.
     pub rows: usize,
+    /// The length of the list lent to a fair run.
+    pub picks: usize,
     /// What the lent memory holds before the call.
     pub pattern: u64,
 }
@@ -45,5 +48,6 @@ pub fn case(random: &mut Random) -> Case {
         1 => (ROW * choices.len() / 2) + random.below(ROW),
         _ => ROW * choices.len() + random.below(2 * ROW),
     };
-    Case { script, choices, words, rows, pattern: random.next() }
+    let picks = choices::room_for_picks(random, &script);
+    Case { script, choices, words, rows, picks, pattern: random.next() }
 }

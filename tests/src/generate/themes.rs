@@ -1,7 +1,8 @@
 //! Whole scripts, by theme: grown at random, close to the limits, deep, with long procedures and long bodies to compare, with a fault in
-//! an argument or a right side.
+//! an argument or a right side, with branches that wait for each other.
 
 use super::bodies::long_bodies;
+use super::branches::branches;
 use super::grow::{Grower, Sort};
 use super::limits::{calls_without_end, frames_or_objects_without_end, to_the_brim, wide};
 use crate::assemble::*;
@@ -26,7 +27,7 @@ pub fn script(random: &mut Random) -> Themed {
     let slips = random.pick(&[5, 20, 60, 200]);
     let all = if weights.iter().all(|&weight| weight == 0) { [1; 13] } else { weights };
     let grower = &mut Grower { random, names, fields, visible: Vec::new(), budget, weights: all, slips };
-    let theme = grower.random.below(21);
+    let theme = grower.random.below(23);
     let far = matches!(theme, 0 | 1 | 4 | 8 | 9 | 11..=13);
     let root = match theme {
         0 => calls_without_end(grower),
@@ -39,6 +40,7 @@ pub fn script(random: &mut Random) -> Themed {
         9 => to_the_brim(grower),
         10 => faulting(grower),
         11..=13 => long_bodies(grower),
+        14..=15 => branches(grower),
         _ => grown(grower),
     };
     let root = if root.nodes() > MOST_NODES { skip() } else { root };

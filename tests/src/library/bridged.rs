@@ -1,7 +1,7 @@
 //! The library on a machine whose programs can't link it: each call goes to `bridge.c`, which `build.rs` built with the library and which
 //! runs under the kit's emulator, one for each thread. It gets all that is lent and sends it back whole.
 
-use super::{RawAnswer, RawReading, RawText, RawVerdict};
+use super::{RawAnswer, RawReading, RawText, RawTurned, RawVerdict};
 use crate::x86::command;
 use std::cell::RefCell;
 use std::io::{Read, Result, Write};
@@ -17,6 +17,7 @@ enum Function {
     ReadWords = 5,
     Read = 6,
     Write = 7,
+    Fair = 8,
 }
 
 struct Bridge(Child);
@@ -45,7 +46,7 @@ thread_local! {
 }
 
 /// Words of the answer before what was lent.
-const WORDS: usize = 6;
+const WORDS: usize = 7;
 
 /// What is lent, as the bytes that cross the bridge.
 trait Lent {
@@ -123,7 +124,7 @@ fn narrow(word: u64) -> u32 {
     word.try_into().expect("a number of 32 bits")
 }
 
-fn told([refusal, place, end, number, node, steps]: [u64; WORDS]) -> RawAnswer {
+fn told([refusal, place, end, number, node, steps, _]: [u64; WORDS]) -> RawAnswer {
     let [refusal, place, end, number, node] = [refusal, place, end, number, node].map(narrow);
     RawAnswer { refusal, place, end, number, node, steps: steps as usize }
 }
@@ -144,6 +145,11 @@ pub fn run(script: &[u8], choices: &[u8], workspace: &mut [u64]) -> RawAnswer {
 
 pub fn trace(script: &[u8], choices: &[u8], workspace: &mut [u64], rows: &mut [u32]) -> RawAnswer {
     told(call(Function::Trace, 0, [script, choices], workspace, rows))
+}
+
+pub fn fair(script: &[u8], picks: &mut [u8], workspace: &mut [u64]) -> RawTurned {
+    let answer = call(Function::Fair, 0, [script, &[]], workspace, picks);
+    RawTurned { told: told(answer), picked: answer[6] as usize }
 }
 
 pub fn read_words(text_bytes: usize) -> usize {

@@ -1,7 +1,7 @@
 //! The library as it is linked, on x86-64. The only file with `unsafe`: each call passes pointers and lengths of slices that
 //! live through the call, and what is lent to be written is lent mutably and to nobody else.
 
-use super::{RawAnswer, RawReading, RawText, RawVerdict};
+use super::{RawAnswer, RawReading, RawText, RawTurned, RawVerdict};
 
 extern "C" {
     fn flagcopper_size() -> usize;
@@ -24,6 +24,14 @@ extern "C" {
         rows: *mut u32,
         row_words: usize,
     ) -> RawAnswer;
+    fn flagcopper_fair(
+        script: *const u8,
+        script_bytes: usize,
+        picks: *mut u8,
+        pick_bytes: usize,
+        workspace: *mut u64,
+        workspace_words: usize,
+    ) -> RawTurned;
     fn flagcopper_read_words(text_bytes: usize) -> usize;
     fn flagcopper_read(
         text: *const u8,
@@ -77,6 +85,19 @@ pub fn trace(script: &[u8], choices: &[u8], workspace: &mut [u64], rows: &mut [u
             workspace.len(),
             rows.as_mut_ptr(),
             rows.len(),
+        )
+    }
+}
+
+pub fn fair(script: &[u8], picks: &mut [u8], workspace: &mut [u64]) -> RawTurned {
+    unsafe {
+        flagcopper_fair(
+            script.as_ptr(),
+            script.len(),
+            picks.as_mut_ptr(),
+            picks.len(),
+            workspace.as_mut_ptr(),
+            workspace.len(),
         )
     }
 }

@@ -1,0 +1,3 @@
+pub mod GivenLaws
+pub mod NameLaws
+pub mod Cases

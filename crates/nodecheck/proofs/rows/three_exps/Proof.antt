@@ -1,0 +1,25 @@
+-- `nodecheck::rows::three_exps` meets its contract.
+-- Assumes nothing.
+use Rattle.nodecheck.proofs.Fitting.{fitting}
+use borrow.Author.Needs.{needs}
+use Rattle.nodecheck.proofs.rows.three_exps.Statement.{statement}
+use Rattle.nodecheck.proofs.rows.three_exps.Tie as tie
+
+child-requires : tie.Need-child-requires
+child-requires c κs = search needs
+
+child-requires-2 : tie.Need-child-requires-2
+child-requires-2 c κs = search needs
+
+child-requires-3 : tie.Need-child-requires-3
+child-requires-3 c κs = search needs
+
+all-requires : tie.Need-all-requires
+all-requires c κs = search needs
+
+returns : tie.Need-returns
+returns c = search (needs, fitting)
+
+pub three-exps-spec : {M : Type 1} → statement M
+three-exps-spec =
+    tie.close (tie.spec child-requires child-requires-2 child-requires-3 all-requires returns)

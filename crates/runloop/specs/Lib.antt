@@ -1,0 +1,1 @@
+-- Nothing of its own: what a run says stands in the crate holds.
