@@ -4,7 +4,7 @@
  * script from MiniOO text, one shows a script as text.
  * Each answer, and every word of what the caller lends, is the definitions' for every input: any bytes, any choices, any
  * workspace. They keep nothing between calls, allocate nothing and never stop the program. Give a call some 200 KB of
- * stack, flagcopper_write 4 MB: of the scripts measured, the deepest used 148 KB in a run and 1.84 MB there (docs/CHECK.md).
+ * stack, flagcopper_write 4 MB: of the scripts measured, the deepest used 164 KB in a run and 1.84 MB there (docs/CHECK.md).
  *
  * C can't say what the proofs rely on, so the caller owes it: a pointer isn't null, not even with length 0, and points
  * to as many aligned elements as its length says; what is lent to be written (workspace, rows, picks, words, output)
@@ -63,6 +63,7 @@ enum { FLAGCOPPER_ACCEPTED = 1, FLAGCOPPER_REFUSED = 2 };
  *                       5 equal on unlike or unfit kinds
  *                       6 less on other than integers
  *                       7 call of other than a procedure
+ *                       8 variable read that wasn't set
  *   3  room             1 frames, 2 objects, 3 control           nowhere
  *   4  choices used up  0                                        nowhere
  *   5  choice out of    0                                        nowhere
@@ -182,13 +183,15 @@ static inline uint64_t flagcopper_objects(const uint64_t *workspace) { return wo
 static inline uint64_t flagcopper_parts(const uint64_t *workspace) { return workspace[2]; }
 
 /* A value is a word of 35 bits: its kind and, above it, what the kind is of. A word of another kind holds no value: no run leaves
- * one there. 6 is reserved: until order 2 it was a stored fault, and it is not used again. */
+ * one there. 6 is reserved: until order 2 it was a stored fault, and it is not used again. Unset, which isn't null, is what a
+ * declared variable's cell holds until something is stored there; no field holds it. */
 enum {
     FLAGCOPPER_NULL = 1,
     FLAGCOPPER_INT = 2,    /* its 32 bits: flagcopper_int */
     FLAGCOPPER_FIELD = 3,  /* its index, from 1 */
     FLAGCOPPER_OBJECT = 4, /* its number, from 0 */
-    FLAGCOPPER_PROC = 5    /* flagcopper_node and flagcopper_chain */
+    FLAGCOPPER_PROC = 5,   /* flagcopper_node and flagcopper_chain */
+    FLAGCOPPER_UNSET = 7   /* only in a cell; nothing above it */
 };
 
 /* The cell of a frame; its name; its outer frame: 0 for none, k + 1 for frame k. */

@@ -4,7 +4,7 @@
 //!
 //! Reading order: `subject` (what is compared), `image`, `assemble` and `parse` (scripts), `independent` (the reference),
 //! `flat` (the measure of speed), `generate`, `search`, `compare` and `shrink`; `readback` (the state in the words of a run); `stops`,
-//! `bodies` and `worked_turns` (scripts by hand of orders 2, 3 and 4), `comparisons` (what a run compares), `turns` (the turns of a fair run) and `met` (how often something is met). For written
+//! `bodies`, `worked_turns` and `unset` (scripts by hand of orders 2, 3, 4 and 5), `comparisons` (what a run compares), `turns` (the turns of a fair run), `early` (what it reads too early) and `met` (how often something is met). For written
 //! scripts `written` (the reference), `chart` (the second opinion), `generate::written` and `reading` (their comparison), `worked` (texts by hand).
 //! For programs `outside` (a folder before and after), `encoding` and `turning` (what `encode` and `turns` print and make).
 
@@ -14,6 +14,7 @@ pub mod bodies;
 pub mod chart;
 pub mod compare;
 pub mod comparisons;
+pub mod early;
 pub mod encoding;
 pub mod flat;
 pub mod generate;
@@ -34,6 +35,7 @@ pub mod stops;
 pub mod subject;
 pub mod turning;
 pub mod turns;
+pub mod unset;
 pub mod worked;
 pub mod worked_turns;
 pub mod written;

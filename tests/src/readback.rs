@@ -13,6 +13,8 @@ pub type Chain = Option<u32>;
 
 #[derive(Clone, Copy, Debug, PartialEq, Eq)]
 pub enum Value {
+    /// In cells alone: declared, and nothing was stored there yet.
+    Unset,
     Null,
     Int(i32),
     /// The index of a field, from 1.
@@ -69,7 +71,8 @@ pub fn value(word: u64) -> Option<Value> {
             let (node, chain) = placed(payload);
             Value::Proc { node, chain }
         }
-        // 0 and 7 were never kinds; 6 is reserved: a stored fault until order 2, and not used again
+        7 => Value::Unset,
+        // 0 is no kind; 6 is reserved: a stored fault until order 2, and not used again
         _ => return None,
     })
 }

@@ -13,7 +13,7 @@ pub struct Stop {
 }
 
 /// So many skips side by side: 257 parts for 129.
-fn skips(count: usize) -> String {
+pub fn skips(count: usize) -> String {
     (1..count).fold("skip".to_string(), |left, _| format!("{{{left} || skip}}"))
 }
 
@@ -24,13 +24,13 @@ pub fn stops() -> Vec<Stop> {
     };
     let last_call = "var p; {p = proc y: if y < 1 p(null - 1) else p(y - 1); p(1022)}";
     vec![
-        stop("fault_in_argument", "var x; (proc y: x = y)(x - 1)", (1, 5), 1, (1, 0)),
+        stop("fault_in_argument", "var x; {x = null; (proc y: x = y)(x - 1)}", (1, 7), 2, (1, 0)),
         stop("fault_in_field", "fields f 7: var x; {malloc(x); {x.f = null - 1; x = x.f}}", (1, 5), 2, (1, 1)),
         stop("fault_further_in", "fields f 7: (proc y: skip)(1 - null.f.f)", (3, 5), 0, (0, 0)),
-        stop("fault_in_atom", "var x; {atom({skip; (proc y: skip)(x - 1)}) || skip}", (1, 5), 3, (1, 0)),
-        stop("callee_before_argument", "var x; x.x(null - 1)", (3, 2), 1, (1, 0)),
-        stop("seven_before_argument", "var x; x(null - 1)", (7, 4), 1, (1, 0)),
-        stop("three_before_right_side", "fields f 7: var x; x.f = null - 1", (3, 5), 1, (1, 0)),
+        stop("fault_in_atom", "var x; {x = null; {atom({skip; (proc y: skip)(x - 1)}) || skip}}", (1, 7), 4, (1, 0)),
+        stop("callee_before_argument", "var x; {x = null; x.x(null - 1)}", (3, 4), 2, (1, 0)),
+        stop("seven_before_argument", "var x; {x = null; x(null - 1)}", (7, 6), 2, (1, 0)),
+        stop("three_before_right_side", "fields f 7: var x; {x = null; x.f = null - 1}", (3, 7), 2, (1, 0)),
         stop("four_before_right_side", "fields f 7: var x; {malloc(x); x.x = null - 1}", (4, 6), 2, (1, 1)),
         stop("argument_before_room_1", last_call, (1, 6), 2_048, (1_024, 0)),
         stop("difference_before_room_1", "var p; {p = proc y: p(y - 1); p(-2147482626)}", (2, 3), 1_025, (1_024, 0)),

@@ -6,6 +6,9 @@
 /// Words of 8 bytes that a run needs: 3 counts, 1,024 frames, 256 objects of 16 values, 255 parts.
 pub const SIZE: usize = 5_378;
 
+/// The faults are numbered from 1 to this.
+pub const FAULTS: usize = 8;
+
 /// Words of a row of the trace: choice, node, tag, frames after, objects after.
 pub const ROW: usize = 5;
 

@@ -1,6 +1,7 @@
 //! Order 4, worked by hand: scripts with the choices that a fair run of them picks, for the tests of every subject that takes turns
 //! fairly. Those up to `last_choice` are the entries of fair/proofs/FairCases, worked out there with commands on slips of paper, and
-//! the others were found in the same way: a queue is written front first, and "A at 1" is that A has one other to the left of it.
+//! the others, the last two with order 5, were found in the same way: a queue is written front first, and "A at 1" is that A has one
+//! other to the left of it.
 
 pub struct Worked {
     pub name: &'static str,
@@ -13,7 +14,7 @@ pub struct Worked {
     pub steps: usize,
     /// How many parts of control, frames and objects are left.
     pub left: [u64; 3],
-    /// The integers in the first cells; none is null.
+    /// The integers in the first cells; none where nothing was stored.
     pub cells: Vec<Option<i32>>,
 }
 
@@ -37,7 +38,7 @@ fn side_by_side(count: usize, command: &str) -> String {
 }
 
 pub fn worked_turns() -> Vec<Worked> {
-    [entries(), left_behind(), atoms(), lists(), rooms(), many()].into_iter().flatten().collect()
+    [entries(), left_behind(), atoms(), lists(), rooms(), many(), unset()].into_iter().flatten().collect()
 }
 
 /// The entries of FairCases but those about the list.
@@ -149,5 +150,17 @@ fn many() -> Vec<Worked> {
     vec![
         worked("eighty_five_loops", &loops, (170, &round.repeat(2)), (FULL, 170), [169, 0, 0], &[]),
         worked("all_that_have_room", &variables, (300, &ending), (DONE, 256), [0, 128, 0], &[None; 128]),
+    ]
+}
+
+/// Order 5: of two branches the left one moves first, and reads before the other has set the variable, or sets it for the other.
+fn unset() -> Vec<Worked> {
+    // V at 0: A B. A at 0, and stops, at node 0.
+    let early = "var x; {x = x - 1 || x = 5}";
+    // V at 0: A B. A at 0, ends: B at 0.
+    let in_time = "var x; {x = 5 || x = x - 1}";
+    vec![
+        worked("branch_too_early", early, (9, &[0, 0]), ((2, 8, Some(0)), 1), [3, 1, 0], &[None]),
+        worked("branch_in_time", in_time, (9, &[0, 0, 0]), (DONE, 3), [0, 1, 0], &[Some(4)]),
     ]
 }

@@ -1,4 +1,4 @@
-//! The scripts tried by hand (document 01, a to o), those of orders 2 and 3, and the listing's example, on every subject.
+//! The scripts tried by hand (document 01, a to o), those of orders 2, 3 and 5, and the listing's example, on every subject.
 
 use flagcopper_tests::assemble::{parallel, skip, Branch};
 use flagcopper_tests::bodies::{bodies, Bodies, STEPS};
@@ -7,6 +7,7 @@ use flagcopper_tests::independent::listing::listing;
 use flagcopper_tests::parse::script;
 use flagcopper_tests::stops::{stops, Stop};
 use flagcopper_tests::subject::{subjects, Answer, SIZE};
+use flagcopper_tests::unset::unset;
 
 const DONE: (u32, u32) = (1, 0);
 const USED_UP: (u32, u32) = (4, 0);
@@ -191,6 +192,27 @@ fn long_bodies_compared() {
 }
 
 #[test]
+fn unset_is_not_null() {
+    for worked in unset() {
+        for (name, subject) in subjects() {
+            assert_eq!(worked.unlike(subject.as_ref()), None, "{name}, {}: {}", worked.name, worked.text);
+        }
+    }
+}
+
+/// Without the fault the scripts about room stop for room at that step.
+#[test]
+fn room_comes_after_an_unset_variable() {
+    for worked in unset() {
+        let Some((_, room)) = worked.name.split_once("_before_room_") else { continue };
+        let text = worked.text.replace("p(x)", "p(0)").replace(")(x)", ")(0)").replace("= x;", "= 0;");
+        let room = room.parse().expect("a number of room");
+        let (frames, objects) = (worked.frames as u64, worked.objects as u64);
+        wants(&script(&text), &worked.choices, (3, room), worked.steps, frames, objects);
+    }
+}
+
+#[test]
 fn listing_example() {
     let image = script("var x; x = 1").bytes();
     assert_eq!(image.len(), 34);
@@ -201,7 +223,7 @@ fn listing_example() {
     assert_eq!(listing(Some(&[]), Some(&[0; 4_097])), "choices too long\n");
     assert_eq!(listing(Some(&[]), Some(&[0; 4_096])), "refused 1 at 0\n");
     assert_eq!(listing(Some(&image), Some(&[])), "step choice node tag frames objects\nend 4 steps 0\n");
-    assert!(listing(Some(&image), Some(&[0, 1])).ends_with("\nend 5 steps 1\ncell 0 name 0 null\n"));
+    assert!(listing(Some(&image), Some(&[0, 1])).ends_with("\nend 5 steps 1\ncell 0 name 0 unset\n"));
     assert!(listing(Some(&script("var x; while true malloc(x)").bytes()), Some(&[0; 600]))
         .ends_with("\nend 3 room 2 steps 514\ncell 0 name 0 object 255\n"));
     assert_eq!(listing(Some(&script("{malloc(x); x = 1}").bytes()), Some(&[])), "refused 9 at 0\n");
@@ -210,18 +232,18 @@ fn listing_example() {
 #[test]
 fn listing_of_every_value_and_end() {
     let image = script(
-        "fields c 12, f 700, g 701: var x; {malloc(x); {x.c = proc y: skip; {x.f = c; {x.c = x.c; \
+        "fields c 12, f 700, g 701: var u; var x; {malloc(x); {x.c = proc y: skip; {x.f = c; {x.c = x.c; \
          {x.g = x; {(proc z: skip)(null); {x = -5; x.c = 1}}}}}}}",
     );
     let text = listing(Some(&image.bytes()), Some(&[0; 20]));
     let (rows, rest) = text.split_at(text.find("end").expect("an end"));
-    assert_eq!(rows.lines().count(), 10);
-    let at = image.nodes.len() - 9;
+    assert_eq!(rows.lines().count(), 11);
+    let at = image.nodes.len() - 10;
     assert_eq!(
         rest,
         format!(
-            "end 2 fault 3 node {at} steps 9\ncell 0 name 0 int -5\ncell 1 name 2 null\n\
-             object 0 field 12 proc 4 0\nobject 0 field 700 field 12\nobject 0 field 701 object 0\n"
+            "end 2 fault 3 node {at} steps 10\ncell 0 name 0 unset\ncell 1 name 1 int -5\ncell 2 name 3 null\n\
+             object 0 field 12 proc 4 1\nobject 0 field 700 field 12\nobject 0 field 701 object 0\n"
         )
     );
     let rootless = script("(proc y: skip)(proc y: skip)");

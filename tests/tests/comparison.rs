@@ -8,7 +8,8 @@ use flagcopper_tests::parse::script;
 use flagcopper_tests::readback::{frame, Value};
 use flagcopper_tests::shrink::{read, shrunk, written};
 use flagcopper_tests::stops::{stops, Stop};
-use flagcopper_tests::subject::{subjects, Subject, SIZE};
+use flagcopper_tests::subject::{subjects, Subject, FAULTS, SIZE};
+use flagcopper_tests::unset::{unset, End, Worked};
 
 const SEED: u64 = 20;
 
@@ -85,6 +86,66 @@ fn each_wrong_turn_of_order_3_on_its_worked_scripts() {
     assert_eq!(answered_otherwise_by(Wrong::FullForgets), left[1..]);
 }
 
+/// The worked scripts of order 5 of which a wrong turn makes something else.
+fn made_otherwise_by(wrong: Wrong) -> Vec<&'static str> {
+    let otherwise = |worked: &&Worked| worked.unlike(&Independent::wrong(wrong)).is_some();
+    unset().iter().filter(otherwise).map(|worked| worked.name).collect()
+}
+
+/// The worked scripts of order 5 that end with fault 8.
+fn ending_with_8() -> Vec<&'static str> {
+    let faulting = |worked: &&Worked| matches!(worked.end, End::Fault(8, _));
+    unset().iter().filter(faulting).map(|worked| worked.name).collect()
+}
+
+#[test]
+fn each_wrong_turn_of_order_5_on_its_worked_scripts() {
+    for wrong in [Wrong::UnsetReadsNull, Wrong::UnsetAtTheCommand] {
+        assert_eq!(made_otherwise_by(wrong), ending_with_8(), "{wrong:?}");
+    }
+    // where all cells that are told hold something in the end, nobody sees with what they began
+    let set = ["assignment_sets", "malloc_sets", "null_is_set", "formal_is_set", "called_after_it_is_set"];
+    let set = [&set[..], &["mentioned_and_compared", "branch_in_time", "atom_in_time"]].concat();
+    let others: Vec<_> = unset().iter().map(|worked| worked.name).filter(|name| !set.contains(name)).collect();
+    assert_eq!(made_otherwise_by(Wrong::CellBeginsNull), others);
+    let stored = ["argument", "right_side", "right_side_of_field", "called_before_it_is_set", "again_in_a_loop"];
+    let before_room = ["argument_before_room_1", "argument_before_room_3"];
+    let assigned = ["inner_declaration"];
+    let sides = ["assignment_before_room_3", "right_side_before_room_3"];
+    assert_eq!(made_otherwise_by(Wrong::UnsetIsStored), [&stored[..], &assigned, &before_room, &sides].concat());
+    let own = ["before_minus_own", "before_equal_own", "before_less_own", "before_selection_own"];
+    assert_eq!(made_otherwise_by(Wrong::OwnFaultBeforeUnset), [&own[..], &["before_field_assignment_own"]].concat());
+    let names = ["assignment_sets", "null_is_set", "nobody_reads_it", "mentioned"];
+    let procedures = ["called_before_it_is_set", "called_after_it_is_set", "mentioned_and_compared"];
+    let branches = ["branch_in_time", "atom_in_time"];
+    let frames = ["again_in_a_loop", "inner_declaration", "outer_declaration"];
+    assert_eq!(
+        made_otherwise_by(Wrong::AssignReadsItsName),
+        [&names[..], &procedures, &branches, &frames, &before_room[..1]].concat()
+    );
+    let objects = ["selecting_field", "field_assigned_to", "right_side_of_field"];
+    let malloc = [&objects[..], &["four_before_it", "malloc_sets", "right_side_before_room_3"]].concat();
+    assert_eq!(made_otherwise_by(Wrong::MallocReadsItsName), malloc);
+    assert_eq!(made_otherwise_by(Wrong::FieldsBeginUnset), malloc);
+    let formals = ["formal_is_set", "called_before_it_is_set", "formal_of_the_name", "argument_before_room_1"];
+    assert_eq!(made_otherwise_by(Wrong::FormalBeginsUnset), formals);
+    assert_eq!(made_otherwise_by(Wrong::ProcReadsUnset), [&["mentioned"], &procedures[..], &before_room[..1]].concat());
+}
+
+/// An unset argument or right side has the place that a stored fault had.
+#[test]
+fn each_wrong_turn_of_order_2_on_the_worked_scripts_of_order_5() {
+    assert_eq!(made_otherwise_by(Wrong::ArgumentBeforeSeven), ["seven_before_it"]);
+    assert_eq!(made_otherwise_by(Wrong::RightSideBeforePlace), ["three_before_it", "four_before_it"]);
+    assert_eq!(made_otherwise_by(Wrong::FramesBeforeFault), ["argument_before_room_1"]);
+    let control = ["argument_before_room_3", "right_side_before_room_3"];
+    assert_eq!(made_otherwise_by(Wrong::ControlBeforeFault), control);
+    let stored = ["argument", "right_side_of_field", "argument_before_room_1", control[0], control[1]];
+    for wrong in [Wrong::FaultIsNull, Wrong::FaultIsStored, Wrong::FaultAtTheCommand] {
+        assert_eq!(made_otherwise_by(wrong), stored, "{wrong:?}");
+    }
+}
+
 /// Document 01: a body run in the caller's chain makes case e give 6.
 #[test]
 fn the_callers_chain_gives_six() {
@@ -102,7 +163,7 @@ fn the_right_ones_agree_and_every_answer_is_met() {
         assert!(found.is_none(), "{name}: case {:?}", found.map(|found| (found.number, found.how)));
         let numbered =
             |what: &str, last: usize| (1..=last).map(|number| format!("{what} {number}")).collect::<Vec<_>>();
-        let answers = [numbered("refusal", 10), numbered("fault", 7), numbered("room", 3)].concat();
+        let answers = [numbered("refusal", 10), numbered("fault", FAULTS), numbered("room", 3)].concat();
         let faults = ["fault of an argument", "fault of an argument, frames full", "fault of a right side"];
         for what in answers.iter().map(String::as_str).chain(["done", "used up", "out of range"]).chain(faults) {
             assert!(tally.of(what) >= 5, "{what} is met {} times", tally.of(what));

@@ -28,10 +28,10 @@ fn parts_in_preorder() {
     let start = [(2, 1), (PARTS, 1 + 8 * (2_048 * 7))];
     words(&image, &[], &start);
     let opened = [(PARTS, 3), (PARTS + 1, waiting(assign)), (PARTS + 2, command(skip)), (PARTS + 3, command(atom))];
-    words(&image, &[0], &[&[(0, 1), (2, 4), (3, 1)], &opened[..]].concat());
-    let entered = [(0, 1), (2, 5), (3, 1), (PARTS + 3, 4), (PARTS + 4, command(inside))];
+    words(&image, &[0], &[&[(0, 1), (2, 4), (3, 7)], &opened[..]].concat());
+    let entered = [(0, 1), (2, 5), (3, 7), (PARTS + 3, 4), (PARTS + 4, command(inside))];
     words(&image, &[0, 1], &[&opened[..3], &entered].concat());
-    words(&image, &[0, 1, 0], &[(0, 1), (2, 2), (3, 1), (PARTS, waiting(assign)), (PARTS + 1, command(skip))]);
+    words(&image, &[0, 1, 0], &[(0, 1), (2, 2), (3, 7), (PARTS, waiting(assign)), (PARTS + 1, command(skip))]);
     words(&image, &[0, 1, 0, 0, 0], &[(0, 1), (3, 2 + 8)]);
 }
 
@@ -45,6 +45,8 @@ fn values_in_cells_and_fields() {
     words(&image, &[0; 4], &[&frames[..], &fields, &parts].concat());
     let numbers = script("fields a 5, b 9: var x; var y; {x = -1; {y = b; malloc(y)}}");
     let minus_one = 2 + 8 * 0xFFFF_FFFF;
+    let opened = [(2, 2), (PARTS, 2 + 8 * (2 + 2_048 * 5)), (PARTS + 1, 1 + 8 * (2 + 2_048))];
+    words(&numbers, &[0; 2], &[&[(0, 2), (3, 7), (4, 7 + ((1 + 256) << 35))], &opened[..]].concat());
     words(
         &numbers,
         &[0; 4],

@@ -7,13 +7,14 @@ use flagcopper_tests::subject::{subjects, SIZE};
 
 #[test]
 fn the_words_of_the_page() {
-    assert_eq!(frame(1), Some(Frame { name: 0, outer: None, cell: Value::Null }));
+    assert_eq!(frame(7), Some(Frame { name: 0, outer: None, cell: Value::Unset }));
     assert_eq!(frame(10), Some(Frame { name: 0, outer: None, cell: Value::Int(1) }));
     let made = Value::Proc { node: 7, chain: Some(0) };
     assert_eq!(frame(8_899_172_352_013), Some(Frame { name: 3, outer: Some(0), cell: made }));
     assert_eq!(part(32_769), Some(Part::Command { node: 2, chain: None }));
     assert_eq!(part(16_393), Some(Part::Command { node: 1, chain: Some(0) }));
     assert_eq!((value(0), frame(0), part(0)), (None, None, None));
+    assert_eq!((value(1), value(7), part(7)), (Some(Value::Null), Some(Value::Unset), None));
     assert_eq!(value(2 + 8 * 0xFFFF_FFFF), Some(Value::Int(-1)));
 }
 
@@ -38,18 +39,18 @@ fn frames_objects_and_parts() {
     let fields = [Value::Null, Value::Proc { node: 4, chain: Some(0) }];
     read(&image, &[0; 4], (&frames, &[&fields], &[Part::Command { node: 6, chain: Some(1) }]));
     let trees = script("var x; {{skip; x = 1} || atom(skip)}");
-    let null = [Frame { name: 0, outer: None, cell: Value::Null }];
+    let unset = [Frame { name: 0, outer: None, cell: Value::Unset }];
     let chain = Some(0);
     let (waiting, first) = (Part::Then { node: 2, chain }, Part::Command { node: 0, chain });
     let inside = Part::Command { node: 4, chain };
-    read(&trees, &[0, 1], (&null, &[], &[Part::Beside, waiting, first, Part::Entered, inside]));
+    read(&trees, &[0, 1], (&unset, &[], &[Part::Beside, waiting, first, Part::Entered, inside]));
 }
 
 #[test]
 fn nothing_is_read_of_other_words() {
     assert!(Words::of(&[1; SIZE - 1]).is_none());
     // 6 was a stored fault until order 2
-    for word in [0, 6, 6 + 8, 7, u64::MAX - 1, u64::MAX] {
+    for word in [0, 6, 6 + 8, u64::MAX - 1] {
         assert_eq!((value(word), frame(word), part(word)), (None, None, None));
         let words = vec![word; SIZE];
         let words = Words::of(&words).expect("the size");

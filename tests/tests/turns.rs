@@ -54,7 +54,7 @@ fn as_worked_by_hand() {
             assert_eq!(run.picks, with_rest(&worked.picks, worked.room), "{what}");
             let words = Words::of(&run.workspace).expect("the workspace has the size");
             let cells: Vec<Value> = words.frames().map(|frame| frame.cell).take(worked.cells.len()).collect();
-            let wanted: Vec<Value> = worked.cells.iter().map(|cell| cell.map_or(Value::Null, Value::Int)).collect();
+            let wanted: Vec<Value> = worked.cells.iter().map(|cell| cell.map_or(Value::Unset, Value::Int)).collect();
             assert_eq!(cells, wanted, "{what}: cells");
             let [frames, objects, parts] = [0, 1, 2].map(|word| run.workspace[word]);
             assert_eq!([parts, frames, objects], worked.left, "{what}: parts, frames and objects");
@@ -133,7 +133,8 @@ fn each_wrong_turn_on_the_worked_scripts() {
     let beside = ["fault_beside", "fault_beside_just", "fault_beside_full"];
     let rest = ["atom_in_loop", "loop_beside_atoms", "left_atom", "behind_two_loops"];
     let inside = ["loop_beside_atoms", "nested_atoms", "leftmost_in_atom"];
-    assert_eq!(told_apart_by(Wrong::NewRightToLeft), [&entries[..], &others, &beside].concat());
+    let unset = ["branch_too_early", "branch_in_time"];
+    assert_eq!(told_apart_by(Wrong::NewRightToLeft), [&entries[..], &others, &beside, &unset].concat());
     assert_eq!(told_apart_by(Wrong::AtomsRestInFront), rest);
     assert_eq!(told_apart_by(Wrong::RightmostInAtom), inside);
     assert_eq!(told_apart_by(Wrong::EnteringEndsTurn), inside[2..]);

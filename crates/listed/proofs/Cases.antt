@@ -1,6 +1,6 @@
--- The whole listing, computed on a run that holds each kind of value but null, and what is printed before a script is run: a
+-- The whole listing, computed on a run that holds each kind of value but null and unset, and what is printed before a script is run: a
 -- missing file, the number of choices, a refused script. So no line and no order can change with the code that writes
--- them; module Example has the lines one by one, null's among them. Assumes nothing.
+-- them; module Example has the lines one by one, null's and unset's among them. Assumes nothing.
 use Prim.Native.Nat.{ℕ}
 use mathlib.Core.Path.{_≡_, refl}
 use mathlib.Core.Option.{none, some}

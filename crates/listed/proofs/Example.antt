@@ -9,7 +9,7 @@ use Rattle.rules.proofs.Opens.{opens}
 use Rattle.rules.specs.Numbers.{stopNo, endNo}
 use Rattle.words.specs.Lent.{rowThen, rowsFrom, rows, rowWords, stepRow, rowsOf}
 use Rattle.rules.specs.declared.Chain.the-variants.{Empty, From}
-use Rattle.rules.specs.declared.Value.the-variants.{Null, Int, Field, Proc}
+use Rattle.rules.specs.declared.Value.the-variants.{Null, Int, Field, Proc, Unset}
 use Rattle.rules.specs.declared.Stop.the-variants.{Faulted, Full, OutOfRange}
 use Rattle.rules.specs.declared.End.the-variants.{UsedUp, Stopped}
 use Rattle.text.specs.Ascii.{ascii}
@@ -33,6 +33,14 @@ pub listing-example : printed (some script) (some choices) ≡ wanted
 unfolding script choices wanted opens rowThen rowsFrom rows rowWords stepRow rowsOf digitCountBy digitCount decimal signed further line headerLine rowLine rowLines endWords endLine valueWords cellLine cellLines objectLines runLines linesBy listingLines listing mostChoices printed flatten
 listing-example = refl
 
+-- with one choice the variable is declared and not set: its cell is listed as unset (order 5)
+pub listing-unset
+    : printed (some script) (some (0 ∷ []))
+    ≡ ascii
+    "step choice node tag frames objects\n1 0 2 32 1 0\nend 4 steps 1\ncell 0 name 0 unset\n"
+unfolding script opens rowThen rowsFrom rows rowWords stepRow rowsOf digitCountBy digitCount decimal signed further line headerLine rowLine rowLines endWords endLine valueWords cellLine cellLines objectLines runLines linesBy listingLines listing mostChoices printed flatten
+listing-unset = refl
+
 -- contents and codes of a script with the codes 12 and 7 at positions 0 and 1 (refused, but a line asks nothing of it)
 unfoldable pub coded : List ℕ
 coded = 10 ∷ 0 ∷ 2 ∷ 0 ∷ 14 ∷ 0 ∷ 1 ∷ 0 ∷ 0 ∷ 0 ∷ 12 ∷ 0 ∷ 7 ∷ 0 ∷ []
@@ -50,6 +58,7 @@ pub lines-example
     ∷ cellLine coded 3 (record { name = 7; outer = Empty; cell = Proc 8 Empty })
     ∷ cellLine coded 0 (record { name = 0; outer = Empty; cell = Int 4294967295 })
     ∷ cellLine coded 0 (record { name = 0; outer = Empty; cell = Int 2147483648 })
+    ∷ cellLine coded 0 (record { name = 0; outer = Empty; cell = Unset })
     ∷ printed (some coded) none
     ∷ printed (some coded) (some (replicate 4097 0))
     ∷ [])
@@ -64,6 +73,7 @@ pub lines-example
     ∷ ascii "cell 3 name 7 proc 8 none\n"
     ∷ ascii "cell 0 name 0 int -1\n"
     ∷ ascii "cell 0 name 0 int -2147483648\n"
+    ∷ ascii "cell 0 name 0 unset\n"
     ∷ ascii "no input\n"
     ∷ ascii "choices too long\n"
     ∷ [])

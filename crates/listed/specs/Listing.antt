@@ -12,7 +12,7 @@ use mir.Val.{toZ}
 use Rattle.rules.specs.declared.Chain.{Chain}
 use Rattle.rules.specs.declared.Chain.the-variants.{Empty, From}
 use Rattle.rules.specs.declared.Value.{Value}
-use Rattle.rules.specs.declared.Value.the-variants.{Nothing, Null, Int, Field, Object, Proc}
+use Rattle.rules.specs.declared.Value.the-variants.{Nothing, Null, Int, Field, Object, Proc, Unset}
 use Rattle.rules.specs.declared.Frame.{Frame}
 use Rattle.rules.specs.declared.Stop.{Stop}
 use Rattle.rules.specs.declared.Stop.the-variants.{Faulted, Full, OutOfRange, NoRule}
@@ -80,6 +80,7 @@ valueWords img (Int b) = ascii "int" ∷ signed (toZ w32 b) ∷ []
 valueWords img (Field f) = ascii "field" ∷ decimal (codeOf img f) ∷ []
 valueWords img (Object o) = ascii "object" ∷ decimal o ∷ []
 valueWords img (Proc n ch) = ascii "proc" ∷ decimal n ∷ chainWord ch ∷ []
+valueWords img Unset = ascii "unset" ∷ []
 
 module _ (img : List ℕ) where
   -- frame k

@@ -5,3 +5,10 @@ pub mod EqualRuns
 pub mod OldScripts
 pub mod OldCases
 pub mod Firsts
+pub mod SetFaults
+pub mod SetReads
+pub mod SetDeeds
+pub mod SetSteps
+pub mod Until
+pub mod SetRuns
+pub mod SetCases

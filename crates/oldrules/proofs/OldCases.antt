@@ -8,7 +8,7 @@ use mathlib.Core.List.{List, [], _∷_, _++_, map}
 use lib.ListN.{replicate}
 use Rattle.rules.proofs.Opens.{opens, told-so, all-told, _also_}
 use Rattle.rules.specs.declared.Chain.the-variants.{Empty, From}
-use Rattle.rules.specs.declared.Value.the-variants.{Nothing, Null, Int, Object, Proc}
+use Rattle.rules.specs.declared.Value.the-variants.{Nothing, Null, Int, Object, Proc, Unset}
 use Rattle.rules.specs.declared.Verdict.the-variants.{Accepted}
 use Rattle.rules.specs.State.{Store, frame, size}
 use Rattle.rules.specs.Script.{scriptOf}
@@ -17,6 +17,7 @@ use Rattle.rules.specs.Control.{command}
 use Rattle.rules.specs.Run.{Ran, ran, runFrom}
 use Rattle.cases.proofs.Cases.{Tried, tried, begun, Shown, shown, show, partsOf, got, want}
 use Rattle.cases.proofs.CasesMore.{argumentFaults}
+use Rattle.cases.proofs.CasesUnset.{calledWith}
 use Rattle.cases.proofs.CasesLimits.{calling, calleeFaults, framesOf, manyFrames, oneFrame, oneObject, within}
 use Rattle.oldrules.proofs.OldScripts.{storedTwice, twoFaults, mended, twoArguments, mendedCell, cellAndField, twoObjects}
 use Rattle.oldrules.specs.BeforeOrder2.{Place, aCell, aField, samePlace, StoredFault, OldStore, newestAt, unfaulted, raised, valueOr, oldReads, asNow, storing, oldEval, others, oldExec, noted, oldApply, oldPlanned, oldMachine, oldRun}
@@ -94,10 +95,10 @@ oldEntries =
     ∷ [])
     -- each cell holds its own fault, a value over it is what is read, and a cell is no field
     ∷ (oldTried (twoArguments 1) (replicate 9 0)
-    (oldShown (shown (2 ∷ 1 ∷ 0 ∷ 3 ∷ []) 1 (frame 0 Empty Null ∷ frame 1 (From 0) Nothing ∷ frame 2 (From 1) Nothing ∷ []) [])
+    (oldShown (shown (2 ∷ 1 ∷ 0 ∷ 3 ∷ []) 1 (frame 0 Empty Unset ∷ frame 1 (From 0) Nothing ∷ frame 2 (From 1) Nothing ∷ []) [])
     (storedAt (aCell 2) 2 5 ∷ storedAt (aCell 1) 1 10 ∷ []))
     ∷ oldTried (twoArguments 2) (replicate 9 0)
-    (oldShown (shown (2 ∷ 2 ∷ 0 ∷ 3 ∷ []) 1 (frame 0 Empty Null ∷ frame 1 (From 0) Nothing ∷ frame 2 (From 1) Nothing ∷ []) [])
+    (oldShown (shown (2 ∷ 2 ∷ 0 ∷ 3 ∷ []) 1 (frame 0 Empty Unset ∷ frame 1 (From 0) Nothing ∷ frame 2 (From 1) Nothing ∷ []) [])
     (storedAt (aCell 2) 2 5 ∷ storedAt (aCell 1) 1 10 ∷ []))
     ∷ oldTried mendedCell (replicate 9 0)
     (oldShown (shown (1 ∷ 4 ∷ []) 0 (frame 0 Empty (Int 5) ∷ frame 1 (From 0) (Int 5) ∷ []) []) (storedAt (aCell 1) 1 8 ∷ []))
@@ -107,6 +108,10 @@ oldEntries =
     ∷ oldTried twoObjects (replicate 9 0)
     (oldShown (shown (2 ∷ 1 ∷ 16 ∷ 6 ∷ []) 1 (frame 0 Empty (Object 0) ∷ frame 1 (From 0) (Object 1) ∷ []) ((Nothing ∷ []) ∷ (Nothing ∷ []) ∷ []))
     (storedAt (aField 1 1) 2 12 ∷ storedAt (aField 0 1) 1 5 ∷ []))
+    ∷ [])
+    -- an argument that is unset is stored as fault 8 (order 5)
+    ∷ (oldTried (calledWith 5 7) (replicate 6 0)
+    (oldShown (shown (1 ∷ 6 ∷ []) 0 (frame 0 Empty (Int 1) ∷ frame 1 (From 0) (Proc 1 (From 1)) ∷ frame 0 (From 1) Nothing ∷ []) []) (storedAt (aCell 2) 8 4 ∷ []))
     ∷ [])
     ∷ []
 
@@ -140,6 +145,7 @@ old-entries-hold =
     also refl  -- a fault over a fault
     also refl  -- a value over a fault
     also refl  -- cells and objects apart
+    also refl  -- unset
     also all-told)
 
 pub now-entries-hold : map (map got) nowEntries ≡ map (map want) nowEntries

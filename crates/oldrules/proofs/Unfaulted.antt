@@ -17,7 +17,7 @@ use Rattle.rules.specs.declared.Effect.the-variants.{SetField}
 use Rattle.rules.specs.declared.Next.the-variants.{Ended}
 use Rattle.rules.specs.State.{Store, AnObject, fieldOf, nextFrame, HasObject}
 use Rattle.rules.specs.Script.{Script, formal}
-use Rattle.rules.specs.Eval.{faultNo, noObject, noField, noProcedure, Res, ok, fault, stuck, _>>=_, there, Closure, closure, asObject, asField, asProc, reading, plainly, eval}
+use Rattle.rules.specs.Eval.{faultNo, noObject, noField, noProcedure, Res, ok, fault, stuck, _>>=_, there, Closure, closure, asObject, asField, asProc, plainly, eval}
 use Rattle.rules.specs.Step.{Deed, deed, enter, calling, intoField, execBy, exec}
 use Rattle.rules.proofs.StoreLaws.{object-there}
 use Rattle.safety.specs.Safe.{FitExp, FitCmd, Bears, IsProc, Real, RealObject, RealStore}
@@ -36,8 +36,8 @@ value-or-stuck stuck = refl
 pub reads-plainly : oldReads [] ≡ plainly
 unfolding oldReads newestAt raised
 reads-plainly =
-    let r : (λ (v : Value). valueOr (reading v) stuck) ≡ reading = fun-ext (λ v. value-or-stuck (reading v)) in
-    ap (λ (f : Value → Res Value). record { inCell = λ n k v. f v; inField = λ n o f′ v. f v }) r
+    let same : _≡_ {A = Res Value → Res Value} (λ r. valueOr r stuck) (λ r. r) = fun-ext value-or-stuck in
+    ap (λ (g : Res Value → Res Value). record { inCell = λ n k v. g (plainly .inCell n k v); inField = λ n o f v. g (plainly .inField n o f v) }) same
 
 pub old-eval : (sc : Script) (s : Store) (ch : Chain) (e : Exp) → oldEval sc (unfaulted s) ch e ≡ eval s ch e
 unfolding oldEval unfaulted

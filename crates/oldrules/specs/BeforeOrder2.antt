@@ -1,7 +1,8 @@
 -- The rules before order 2, which made a fault stop the run wherever it arises. Document 01 said: "an argument that faults is
 -- stored in the formal's cell, and the right side of a field assignment that faults is stored in the field; the run goes on",
 -- and "Reading a stored fault is that fault, at the reading node". They stand here to be compared with the rules
--- (proofs/EqualRuns), and for nothing else; what order 2 left as it was is the rules' own, by name. Assumes nothing.
+-- (proofs/EqualRuns), and for nothing else; what order 2 left as it was is the rules' own, by name, with what later orders changed
+-- of it: an unset variable is fault 8 here too (order 5). Assumes nothing.
 use Prim.Native.Nat.{ℕ}
 use mathlib.Core.Bool.{Bool, false, cond, _&&_}
 use mathlib.Core.Option.{Option, none, some}
@@ -16,7 +17,7 @@ use Rattle.rules.specs.declared.Value.the-variants.{Nothing}
 use Rattle.rules.specs.declared.Effect.{Effect}
 use Rattle.rules.specs.declared.Stop.the-variants.{Faulted, NoRule}
 use Rattle.rules.specs.State.{Store, empty, nextFrame}
-use Rattle.rules.specs.Eval.{faultNo, noObject, noField, noProcedure, Res, ok, fault, stuck, _>>=_, asObject, asField, asProc, reading, Reads, evalBy}
+use Rattle.rules.specs.Eval.{faultNo, noObject, noField, noProcedure, Res, ok, fault, stuck, _>>=_, asObject, asField, asProc, Reads, plainly, evalBy}
 use Rattle.rules.specs.Step.{Deed, deed, calling, intoField, execBy, apply, shortOf, withRoom, Plan, refuses, Machine}
 use Rattle.rules.specs.Run.{Start, Ran, run}
 
@@ -68,8 +69,8 @@ valueOr stuck r = r
 unfoldable pub oldReads : List StoredFault → Reads
 oldReads fs =
     record {
-      inCell = λ n k v. valueOr (reading v) (raised n (newestAt (aCell k) fs));
-      inField = λ n o f v. valueOr (reading v) (raised n (newestAt (aField o f) fs));
+      inCell = λ n k v. valueOr (plainly .inCell n k v) (raised n (newestAt (aCell k) fs));
+      inField = λ n o f v. valueOr (plainly .inField n o f v) (raised n (newestAt (aField o f) fs));
     }
 
 -- ---- ".. is stored in the formal's cell, .. is stored in the field; the run goes on."

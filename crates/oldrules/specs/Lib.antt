@@ -1,2 +1,3 @@
 pub mod BeforeOrder2
 pub mod Compared
+pub mod BeforeOrder5

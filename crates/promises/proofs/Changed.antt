@@ -5,7 +5,7 @@ use mathlib.Core.Path.{_≡_}
 use mathlib.Core.Logic.{_⊎_}
 use mathlib.Core.Option.{some}
 use mathlib.Core.List.{List, []}
-use lib.ListN.{length}
+use lib.ListN.{length, take}
 use Rattle.rules.specs.declared.Verdict.the-variants.{Accepted}
 use Rattle.rules.specs.declared.End.the-variants.{Stopped}
 use Rattle.rules.specs.declared.Stop.the-variants.{Faulted}
@@ -15,9 +15,11 @@ use Rattle.rules.specs.Control.{Control}
 use Rattle.rules.specs.Run.{ran, runScript}
 use Rattle.oldrules.specs.BeforeOrder2.{OldStore, oldRun}
 use Rattle.oldrules.specs.Compared.{StoresNone, FirstStored, SameRun}
+use Rattle.oldrules.specs.BeforeOrder5.{nullRun, ReadUnset, usedUp, SameButUnset}
 use Rattle.oldrules.proofs.EqualRuns as EqualRuns
+use Rattle.oldrules.proofs.SetRuns as SetRuns
 
--- ======== order 2: a fault in a field must stop
+-- ======== order 2: a fault in a field must stop. Both sides have order 5's rule: an unset variable is fault 8 by the rules before order 2 too
 
 module _ (words : ℕ) (img : List ℕ) (are-bytes : Bytes img) (is-accepted : check [] words img ≡ Accepted) (choices : List ℕ) where
   -- "Show equal runs wherever the old one stores no fault": the same end, steps, frames, objects and control
@@ -39,3 +41,19 @@ module _ (words : ℕ) (img : List ℕ) (are-bytes : Bytes img) (is-accepted : c
   -- so a run that ends without a fault is as it was
   pub without-fault-equal : ((k n : ℕ) → runScript img choices .end ≡ Stopped (Faulted k n) → ⊥) → SameRun (oldRun img choices) (runScript img choices)
   without-fault-equal = EqualRuns.without-fault-equal words img are-bytes is-accepted choices
+
+-- ======== order 5: not set is not null. Both sides have order 2's rule
+
+module _ (img choices : List ℕ) where
+  -- a run that doesn't end with fault 8 is the run of before: the same end, steps and control, and the same store but that the cells which are still
+  -- unset were null
+  pub same-unless-read : (ReadUnset (runScript img choices) → ⊥) → SameButUnset (nullRun img choices) (runScript img choices)
+  same-unless-read = SetRuns.same-unless-read img choices
+
+  -- one that does is the run of before up to that step, which before came to something else: no run ended with fault 8
+  pub same-until-read : ReadUnset (runScript img choices)
+      → SameButUnset (nullRun img (take (runScript img choices .steps) choices)) (usedUp (runScript img choices))
+  same-until-read = SetRuns.same-until-read img choices
+
+  pub never-read-before : ReadUnset (nullRun img choices) → ⊥
+  never-read-before = SetRuns.never-read-before img choices

@@ -4,4 +4,5 @@ pub mod Promises
 pub mod Excluded
 pub mod WrittenScripts
 pub mod Changed
+pub mod NotSet
 pub mod FairTurns

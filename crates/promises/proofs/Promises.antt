@@ -16,7 +16,7 @@ use Rattle.rules.specs.declared.Chain.the-variants.{From}
 use Rattle.rules.specs.declared.Frame.{Frame}
 use Rattle.rules.specs.declared.Stop.the-variants.{Full}
 use Rattle.rules.specs.declared.Value.{Value}
-use Rattle.rules.specs.declared.Value.the-variants.{Nothing, Object, Proc}
+use Rattle.rules.specs.declared.Value.the-variants.{Nothing, Object, Proc, Unset}
 use Rattle.rules.specs.declared.Verdict.{Verdict}
 use Rattle.rules.specs.declared.Verdict.the-variants.{Accepted, Refused}
 use Rattle.rules.specs.Syntax.{Cmd}
@@ -97,12 +97,12 @@ verdict-numbers-decide-it = verdict-numbers-decide
 pub demand-1-verdict : (img : List ℕ) (words : ℕ) (v : Verdict) → Checks img words v → VerdictNumbered (verdictNumbers v)
 demand-1-verdict img words v c = subst (λ (w : Verdict). VerdictNumbered (verdictNumbers w)) (sym (c .verdict)) (no-verdict-is-zero words img)
 
--- the numbers of the tables: ten refusals, seven faults, three rooms
+-- the numbers of the tables: ten refusals, eight faults, three rooms
 pub ten-refusals : (k : ℕ) → ARefusal k ↔ OneTo 10 k
 ten-refusals = refusal-numbers
 
-pub seven-faults : (k : ℕ) → AFault k ↔ OneTo 7 k
-seven-faults = fault-numbers
+pub eight-faults : (k : ℕ) → AFault k ↔ OneTo 8 k
+eight-faults = fault-numbers
 
 pub three-rooms : (k : ℕ) → ARoom k ↔ OneTo 3 k
 three-rooms = room-numbers
@@ -127,7 +127,7 @@ demand-1-check-first-reason img words v c k p = (
 )
 
 module _ (img choices lent : List ℕ) (a : Answer) (after : List ℕ) (runs : Runs img choices a lent after) where
-  -- run: a refusal 1 to 10; or an end 1 to 5, with a fault 1 to 7 at a node of the script, or a room 1 to 3
+  -- run: a refusal 1 to 10; or an end 1 to 5, with a fault 1 to 8 at a node of the script, or a room 1 to 3
   pub demand-1-numbered : Bytes img → Numbered (nodesOf img) (answerNumbers a)
   demand-1-numbered b = rw (runs .answer) (no-answer-is-zero (length lent) img b choices)
 
@@ -314,8 +314,8 @@ module _ (img : List ℕ) (are-bytes : Bytes img) (words : ℕ) (accepts : Accep
     pub outer-frame-exists : (k j : ℕ) (f : Frame) → frameAt s k ≡ some f → f .outer ≡ From j → (g : Frame) × (frameAt s j ≡ some g)
     outer-frame-exists = Demand3.outer-frame-exists words img are-bytes is-accepted choices s o at
 
-    -- .. of one of the kinds 1 to 5: zero is the kind of nothing
-    pub held-kind-is-not-zero : (v : Value) → HeldIn s v → OneTo 5 (kindNo v)
+    -- .. of one of the kinds 1 to 5, or unset: zero is the kind of nothing
+    pub held-kind-is-not-zero : (v : Value) → HeldIn s v → OneTo 5 (kindNo v) ⊎ (v ≡ Unset)
     held-kind-is-not-zero = Zero.no-kind-is-zero words img are-bytes is-accepted choices s o at
 
     pub nothing-is-never-held : HeldIn s Nothing → ⊥
@@ -342,7 +342,7 @@ module _ (img : List ℕ) (are-bytes : Bytes img) (words : ℕ) (accepts : Accep
     pub only-inside-an-entered-atom : atomIn t ≡ true → (x : Innermost t) × (movable t ≡ movable (x .inner))
     only-inside-an-entered-atom = Demand3.only-inside-an-entered-atom words img are-bytes is-accepted choices s t at
 
-  -- "So the run can stop only as done, as one of the seven faults, for the choices, or for room"
+  -- "So the run can stop only as done, as one of the eight faults, for the choices, or for room"
   pub demand-3-ends : (lent : List ℕ) → length lent ≡ words → (a : Answer) (after : List ℕ) → Runs img choices a lent after
       → (e : ℕ) (values : List ℕ) (n : ℕ) → Ends a e values n → EndNumbered (nodesOf img) e values
   demand-3-ends lent l a after runs e values n f =

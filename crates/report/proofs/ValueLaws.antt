@@ -8,7 +8,7 @@ use mir.Val.{toZ}
 use Rattle.rules.specs.declared.Chain.{Chain}
 use Rattle.rules.specs.declared.Chain.the-variants.{Empty, From}
 use Rattle.rules.specs.declared.Value.{Value}
-use Rattle.rules.specs.declared.Value.the-variants.{Nothing, Null, Int, Field, Object, Proc}
+use Rattle.rules.specs.declared.Value.the-variants.{Nothing, Null, Int, Field, Object, Proc, Unset}
 use Rattle.text.specs.Ascii.{ascii}
 use Rattle.text.specs.Text.{decimal, signed, further, pair, last}
 use Rattle.listed.specs.Listing.{codeOf, chainWord, valueWords}
@@ -79,3 +79,7 @@ module _ (at r : ℕ) (d o : List ℕ) where
     unfolding further valueWords
     value-proc v n ch e w =
         by-kind 48 v (Proc n ch) (further (ascii "proc" ∷ decimal n ∷ chainWord ch ∷ [])) e w refl (omega arith)
+
+    pub value-unset : (v : Value) → v ≡ Unset → Wrote 7 d at (ascii " unset\n") r o → Wrote 48 d at (further (valueWords img v)) r o
+    unfolding further valueWords
+    value-unset v e w = by-kind 7 v Unset (ascii " unset\n") e w refl (omega arith)

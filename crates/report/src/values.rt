@@ -75,5 +75,6 @@ pub fn put_value(out: &mut [u8], at: usize, img: &[u8], v: Value) -> usize
         Value::Field(f) => put_field(out, at, img, f),
         Value::Object(o) => put_last(out, at, b" object", o as u64),
         Value::Proc(n, ch) => put_proc(out, at, n, ch),
+        Value::Unset => put_text(out, at, b" unset\n"),
     }
 }

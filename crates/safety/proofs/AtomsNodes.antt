@@ -24,16 +24,20 @@ use Rattle.safety.proofs.Rooms.{made-only}
 use Rattle.safety.proofs.Atoms.{EntersBlock, only-that-block-moves}
 
 -- what is given, if something is
-abbrev Gives : {A : Type 0} → (A → Type 0) → Res A → Type 0
+abbrev pub Gives : {A : Type 0} → (A → Type 0) → Res A → Type 0
 Gives P (ok a) = P a
 Gives P (fault k n) = Unit {0}
 Gives P stuck = Unit {0}
 
-gives-bind : {A B : Type 0} (P : B → Type 0) (r : Res A) (f : A → Res B) → ((a : A) → Gives P (f a)) → Gives P (r >>= f)
+-- a part gives something first, which is known then
+pub gives-known : {A B : Type 0} (P : B → Type 0) (r : Res A) (f : A → Res B) → ((a : A) → r ≡ ok a → Gives P (f a)) → Gives P (r >>= f)
 unfolding _>>=_
-gives-bind P (ok a) f g = g a
-gives-bind P (fault k n) f g = tt
-gives-bind P stuck f g = tt
+gives-known P (ok a) f g = g a refl
+gives-known P (fault k n) f g = tt
+gives-known P stuck f g = tt
+
+gives-bind : {A B : Type 0} (P : B → Type 0) (r : Res A) (f : A → Res B) → ((a : A) → Gives P (f a)) → Gives P (r >>= f)
+gives-bind P r f g = gives-known P r f (λ a _. g a)
 
 -- an atom around the command at node n
 abbrev AtomAround : Cmd → ℕ → Type 0

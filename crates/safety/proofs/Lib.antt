@@ -39,3 +39,8 @@ pub mod PutLaws
 pub mod EitherFirst
 pub mod AtomsCases
 pub mod NotGivenBack
+pub mod UnsetSteps
+pub mod UnsetRuns
+pub mod UnsetRead
+pub mod OperandFaults
+pub mod ReadNodes

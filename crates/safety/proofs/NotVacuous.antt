@@ -23,7 +23,7 @@ use Rattle.rules.specs.Step.{miniOO}
 use Rattle.rules.specs.Run.{Start, bare, runScript, run, begins}
 use Rattle.rules.proofs.Opens.{opens}
 use Rattle.cases.proofs.Cases.{recursive, inAtom, ownStacks}
-use Rattle.safety.specs.Safe.{FitCmd, Real, RealFrame, RealObject, outermost, within, Given, Safe}
+use Rattle.safety.specs.Safe.{FitCmd, RealCell, RealFrame, RealObject, outermost, within, Given, Safe}
 use Rattle.safety.specs.Atoms.{Sealed, AtomMoves}
 use Rattle.safety.proofs.Chains.{bears-there}
 use Rattle.safety.proofs.ReachesMoments.{run-moment}
@@ -153,7 +153,7 @@ module _ (sc : Script) (s : Store) where
       → Safe sc s o
       → ⊥
   no-such-object o k m f e c h safe =
-      let old : HasObject s m = subst (Real sc s) c (safe .store .frames k f e .cell) in omega arith
+      let old : HasObject s m = subst (RealCell sc s) c (safe .store .frames k f e .cell) in omega arith
 
   -- .. or a field
   pub no-such-object-in-a-field : (o : Option Control) (k i m : ℕ) (obj : AnObject)

@@ -1,17 +1,17 @@
--- How many rows the tables have: the numbers of the faults are 1 to 7, those of the rooms 1 to 3, those of the refusals 1 to 10,
+-- How many rows the tables have: the numbers of the faults are 1 to 8, those of the rooms 1 to 3, those of the refusals 1 to 10,
 -- each with its row and no others. No definition says so; a row more in a table, or one fewer, is seen here. Assumes nothing.
 use Prim.Native.Nat.{ℕ, zero, suc}
 use mathlib.Core.Path.{refl, subst}
 use mathlib.Core.Logic.{_↔_}
 use native.Mathlib.Omega.{arith}
 use Rattle.rules.specs.Refusals.{Reason, noSpace, tooShort, wrongContents, wrongLength, wrongCode, noSuchTag, unusedWord, wrongOperand, notOnce, undeclared, rule, ruleOf}
-use Rattle.rules.specs.Eval.{Wrong, differenceOfOthers, differenceOutside, noObject, noField, unlikeKinds, lessOfOthers, noProcedure, faultNo}
+use Rattle.rules.specs.Eval.{Wrong, differenceOfOthers, differenceOutside, noObject, noField, unlikeKinds, lessOfOthers, noProcedure, unsetVariable, faultNo}
 use Rattle.rules.specs.Control.{Room, ofFrames, ofObjects, ofControl, roomNo}
 use Rattle.safety.specs.Numbered.{AFault, ARoom, ARefusal, OneTo}
 
 -- ---- document 01, "Steps": faults
 
-fault-number : (w : Wrong) → OneTo 7 (faultNo w)
+fault-number : (w : Wrong) → OneTo 8 (faultNo w)
 fault-number differenceOfOthers = (omega arith, omega arith)
 fault-number differenceOutside = (omega arith, omega arith)
 fault-number noObject = (omega arith, omega arith)
@@ -19,8 +19,9 @@ fault-number noField = (omega arith, omega arith)
 fault-number unlikeKinds = (omega arith, omega arith)
 fault-number lessOfOthers = (omega arith, omega arith)
 fault-number noProcedure = (omega arith, omega arith)
+fault-number unsetVariable = (omega arith, omega arith)
 
-fault-of : (k : ℕ) → OneTo 7 k → AFault k
+fault-of : (k : ℕ) → OneTo 8 k → AFault k
 fault-of zero h = absurd (omega (arith, h .0))
 fault-of (suc zero) h = (differenceOfOthers, refl)
 fault-of (suc (suc zero)) h = (differenceOutside, refl)
@@ -29,10 +30,11 @@ fault-of (suc (suc (suc (suc zero)))) h = (noField, refl)
 fault-of (suc (suc (suc (suc (suc zero))))) h = (unlikeKinds, refl)
 fault-of (suc (suc (suc (suc (suc (suc zero)))))) h = (lessOfOthers, refl)
 fault-of (suc (suc (suc (suc (suc (suc (suc zero))))))) h = (noProcedure, refl)
-fault-of (suc (suc (suc (suc (suc (suc (suc (suc k)))))))) h = absurd (omega (arith, h .1))
+fault-of (suc (suc (suc (suc (suc (suc (suc (suc zero)))))))) h = (unsetVariable, refl)
+fault-of (suc (suc (suc (suc (suc (suc (suc (suc (suc k))))))))) h = absurd (omega (arith, h .1))
 
-pub fault-numbers : (k : ℕ) → AFault k ↔ OneTo 7 k
-fault-numbers k = (λ x. subst (OneTo 7) (x .1) (fault-number (x .0)), fault-of k)
+pub fault-numbers : (k : ℕ) → AFault k ↔ OneTo 8 k
+fault-numbers k = (λ x. subst (OneTo 8) (x .1) (fault-number (x .0)), fault-of k)
 
 -- ---- document 01, "How a run ends": rooms
 

@@ -12,21 +12,21 @@ use lib.Dec.{T}
 use borrow.Author.Tests.{le-leb}
 use Rattle.rules.specs.declared.Chain.{Chain}
 use Rattle.rules.specs.declared.Value.{Value}
-use Rattle.rules.specs.declared.Value.the-variants.{Nothing}
-use Rattle.rules.specs.State.{Store, mostParts}
+use Rattle.rules.specs.declared.Value.the-variants.{Nothing, Unset}
+use Rattle.rules.specs.State.{Store, AnObject, objectAt, mostParts}
 use Rattle.rules.specs.Script.{Script}
 use Rattle.rules.specs.Control.{Control, parts, fits, atomIn, Move, move, movable, goesTo}
 use Rattle.rules.specs.Step.{step, miniOO}
 use Rattle.rules.specs.Run.{runFrom, Start, run, begins}
 use Rattle.rules.specs.Numbers.{endNo, endValues}
 use Rattle.rules.proofs.ControlLaws.{some-moves}
-use Rattle.safety.specs.Safe.{FitCmd, Real, Given, Safe}
+use Rattle.safety.specs.Safe.{FitCmd, RealCell, Given, Safe}
 use Rattle.safety.specs.Needs.{needs}
 use Rattle.safety.specs.Found.{Borne, HeldIn}
 use Rattle.safety.specs.Reaches.{Moment, Left}
 use Rattle.safety.specs.Numbered.{EndNumbered}
 use Rattle.safety.specs.Atoms.{Innermost, Sealed, AtomMoves}
-use Rattle.safety.proofs.LinksNeeded.{names-found, held-exists, never-nothing}
+use Rattle.safety.proofs.LinksNeeded.{names-found, held-exists, never-nothing, no-field-unset}
 use Rattle.safety.proofs.Ends.{run-leaves}
 use Rattle.safety.proofs.Entered.{innermost, others-wait}
 use Rattle.safety.proofs.AtomsNodes.{only-that-atom-moves}
@@ -48,16 +48,20 @@ module _ (sc : Script) (st : Start Store) (given : Given sc st) (root : ℕ) (cs
       let safe : Safe sc s (some t) = moment-safe s (some t) y in
       names-found sc s n ch x (ready-at sc s t safe i n ch p .seen) h
 
-  -- Every object and procedure held anywhere exists; and nothing is never held.
+  -- Every object and procedure held anywhere exists; nothing is never held, and unset in no field.
   pub held-real : (s : Store) (o : Option Control)
       → Moment (miniOO sc) st root cs s o
       → (v : Value)
       → HeldIn s v
-      → Real sc s v
+      → RealCell sc s v
   held-real s o x v h = held-exists sc s (moment-safe s o x .store) v h
 
   pub nothing-held : (s : Store) (o : Option Control) → Moment (miniOO sc) st root cs s o → HeldIn s Nothing → ⊥
   nothing-held s o x h = never-nothing sc s (moment-safe s o x .store) h
+
+  pub no-unset-field : (s : Store) (o : Option Control) → Moment (miniOO sc) st root cs s o
+      → (k i : ℕ) (obj : AnObject) → objectAt s k ≡ some obj → getElem? (obj .values) i ≡ some Unset → ⊥
+  no-unset-field s o x = no-field-unset sc s (moment-safe s o x .store)
 
   -- From the step that enters an atomic block to the step that leaves it, only that block moves.
   pub only-the-block-moves : (s : Store) (t : Control)
@@ -79,7 +83,7 @@ module _ (sc : Script) (st : Start Store) (given : Given sc st) (root : ℕ) (cs
       let x : Innermost t = innermost t e in
       (x, others-wait t (moment-safe s (some t) y .control .nested) (x .stands))
 
-  -- The run can stop only as done, as one of the seven faults, for the choices, or for room.
+  -- The run can stop only as done, as one of the eight faults, for the choices, or for room.
   pub ends-numbered : EndNumbered (sc .nodes) (endNo (run (miniOO sc) st root cs .end)) (endValues (run (miniOO sc) st root cs .end))
   ends-numbered = run-sound sc st given root fit cs .end
 

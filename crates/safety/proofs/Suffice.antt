@@ -26,7 +26,7 @@ use Rattle.safety.proofs.Fine.{Any, Of, Stated, fine-bind, fine-there, 
 
 module _ (sc : Script) (s : Store) (good : RealStore sc s) (visible : Names) (ch : Chain) where
   abbrev Held : Value → Type 0
-  Held = RealIf sc (Stated sc) s
+  Held = RealIf sc ⊥ (Stated sc) s
 
   fine-exp : (e : Exp) → FitExp sc visible e → Bear s ch (needsExp e) → Fine sc Held (eval s ch e)
   fine-exp e h b = eval-borne sc s (Stated sc) (λ n dh p. (_, p .is)) good ch visible (λ n y c p. (_, p .1)) e h b

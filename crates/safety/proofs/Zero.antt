@@ -4,13 +4,14 @@
 -- the tag of a command that can move. Assumes that the script is made of bytes.
 use Prim.Native.Nat.{ℕ, zero, suc, _<_, _≤_}
 use mathlib.Core.Path.{_≡_, refl, _∙_}
+use mathlib.Core.Logic.{_⊎_, inl, inr}
 use mathlib.Core.Option.{Option, none, some}
 use mathlib.Core.List.{List, []}
 use native.Mathlib.Omega.{arith}
 use lib.ListN.{getElem?}
 use Rattle.rules.specs.declared.Chain.{Chain}
 use Rattle.rules.specs.declared.Value.{Value}
-use Rattle.rules.specs.declared.Value.the-variants.{Nothing, Null, Int, Field, Object, Proc}
+use Rattle.rules.specs.declared.Value.the-variants.{Nothing, Null, Int, Field, Object, Proc, Unset}
 use Rattle.rules.specs.declared.Verdict.{Verdict}
 use Rattle.rules.specs.declared.Verdict.the-variants.{Accepted, Refused}
 use Rattle.rules.specs.declared.Node.{Node}
@@ -26,7 +27,7 @@ use Rattle.rules.specs.Run.{runScript, answered, answerOf, bare}
 use Rattle.rules.specs.Numbers.{kindNo, endNo, verdictNumbers, answerNumbers}
 use Rattle.rules.proofs.Reasons.{refused-only}
 use Rattle.rules.proofs.Trees.{treeAt-is}
-use Rattle.safety.specs.Safe.{Real}
+use Rattle.safety.specs.Safe.{RealCell}
 use Rattle.safety.specs.Numbered.{ARefusal, OneTo, VerdictNumbered, accepted, refused, Numbered, refusal, ending}
 use Rattle.safety.specs.Found.{HeldIn}
 use Rattle.safety.proofs.NumberedOnly.{one-of-five}
@@ -108,20 +109,22 @@ module _ (words : ℕ) (img : List ℕ) (are-bytes : Bytes img) (accepted : chec
 
     -- values held anywhere
     module _ (o : Option Control) (a : At words img are-bytes accepted choices s o) where
-      real : (v : Value) → HeldIn s v → Real (scriptOf img) s v
+      real : (v : Value) → HeldIn s v → RealCell (scriptOf img) s v
       real = Moments.held-real (scriptOf img) bare (bare-given (scriptOf img)) (rootOf img) choices (accepted-fits [] words img are-bytes accepted) s o a
 
-      pub no-kind-is-zero : (v : Value) → HeldIn s v → OneTo 5 (kindNo v)
+      -- 1 to 5, or 7, which is unset; 6 is no value's
+      pub no-kind-is-zero : (v : Value) → HeldIn s v → OneTo 5 (kindNo v) ⊎ (v ≡ Unset)
       unfolding kindNo
       no-kind-is-zero v h = go v (real v h)
         where
-          go : (w : Value) → Real (scriptOf img) s w → OneTo 5 (kindNo w)
+          go : (w : Value) → RealCell (scriptOf img) s w → OneTo 5 (kindNo w) ⊎ (w ≡ Unset)
           go Nothing r = absurd r
-          go Null r = (omega arith, omega arith)
-          go (Int b) r = (omega arith, omega arith)
-          go (Field f) r = (omega arith, omega arith)
-          go (Object k) r = (omega arith, omega arith)
-          go (Proc n ch) r = (omega arith, omega arith)
+          go Unset r = inr refl
+          go Null r = inl (omega arith, omega arith)
+          go (Int b) r = inl (omega arith, omega arith)
+          go (Field f) r = inl (omega arith, omega arith)
+          go (Object k) r = inl (omega arith, omega arith)
+          go (Proc n ch) r = inl (omega arith, omega arith)
 
       pub no-held-field-is-zero : (f : ℕ) → HeldIn s (Field f) → OneTo (fieldsOf img) f
       unfolding scriptOf

@@ -7,3 +7,5 @@ pub mod Fits
 pub mod Reaches
 pub mod Atoms
 pub mod Rooms
+pub mod Unset
+pub mod ReadsOf

@@ -8,6 +8,8 @@ use flagcopper_tests::image::{Image, Node};
 use flagcopper_tests::independent::listing::listing;
 use flagcopper_tests::parse::script;
 use flagcopper_tests::stops::stops;
+use flagcopper_tests::subject::FAULTS;
+use flagcopper_tests::unset::unset;
 use std::path::Path;
 
 struct Vector {
@@ -66,9 +68,10 @@ fn cases() -> Vec<Vector> {
     ]
 }
 
-/// Every kind of value in cells and fields, every fault, those that aren't stored, the longest listings, and long bodies compared.
+/// Every kind of value in cells and fields, every fault, those that aren't stored, the longest listings, long bodies compared, and variables
+/// that weren't set.
 fn values() -> Vec<Vector> {
-    let all = "fields c 12, f 700, g 701: var x; {malloc(x); {x.c = proc y: skip; {x.f = c; {x.c = x.c; \
+    let all = "fields c 12, f 700, g 701: var u; var x; {malloc(x); {x.c = proc y: skip; {x.f = c; {x.c = x.c; \
                {x.g = x; {(proc z: skip)(null); {x = -5; x.c = 1}}}}}}}";
     let wide = "fields a 1, b 2, c 3, d 4, e 5, f 6, g 7, h 8, i 9, j 10, k 11, l 12, m 13, n 14, o 15, p 65535: \
                 var x; while true {malloc(x); x.p = x}";
@@ -78,14 +81,15 @@ fn values() -> Vec<Vector> {
         written("wide_objects", wide, &zeros(1_000)),
         written("longest", "while true skip", &zeros(4_096)),
     ];
-    let faults = [
-        "x = x - null",
+    let faults: [&str; FAULTS] = [
+        "{x = null; x = x - null}",
         "x = 2147483647 - -1",
-        "x = x.f",
+        "{x = null; x = x.f}",
         "{malloc(x); x = x.x}",
         "if f == f skip else skip",
-        "while x < 1 skip",
-        "x(1)",
+        "{x = null; while x < 1 skip}",
+        "{x = null; x(1)}",
+        "{skip; x = x - 1}",
     ];
     for (number, text) in (1..).zip(faults) {
         vectors.push(written(&format!("fault_{number}"), &format!("fields f 7: var x; {text}"), &zeros(9)));
@@ -93,6 +97,9 @@ fn values() -> Vec<Vector> {
     // the last choice is the one of the step that stops
     vectors.extend(stops().iter().map(|stop| written(stop.name, &stop.text, &zeros(stop.steps + 1))));
     vectors.extend(bodies().iter().map(|bodies| written(bodies.name, &bodies.text, &zeros(STEPS))));
+    for worked in unset() {
+        vectors.push(written(&format!("unset_{}", worked.name), &worked.text, &worked.choices));
+    }
     vectors
 }
 

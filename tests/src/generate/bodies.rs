@@ -72,7 +72,7 @@ pub fn long_bodies(grower: &mut Grower) -> Branch {
     let first = proc(formal, body);
     let compared = |a, b| {
         if in_a_loop {
-            // after the answer yes comes fault 1
+            // after the answer yes comes fault 1, or 8 where nothing was stored
             repeat(equal(a, b), assign(one, difference(variable(one), integer(1))))
         } else {
             choose(equal(a, b), assign(one, integer(1)), assign(one, integer(2)))

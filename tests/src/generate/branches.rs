@@ -21,7 +21,7 @@ pub fn branches(grower: &mut Grower) -> Branch {
     };
     if declared {
         let sort = grower.random.pick(&[Sort::Int, Sort::Object]);
-        var(name, grower.under(name, sort, inner))
+        grower.declared(name, sort, inner)
     } else {
         inner(grower)
     }
@@ -103,8 +103,7 @@ fn branch(grower: &mut Grower, depth: usize) -> Branch {
         8 => sequence(row(grower), few(grower, deeper)),
         9 => {
             let name = grower.name();
-            let inner = grower.under(name, Sort::Int, |grower| few(grower, deeper));
-            var(name, inner)
+            grower.declared(name, Sort::Int, |grower| few(grower, deeper))
         }
         10 => {
             let name = grower.name();

@@ -94,7 +94,7 @@ impl Grower<'_> {
             Sort::Int => integer(self.random.below(7) as i32 - 2),
             Sort::Proc => self.procedure(),
             Sort::Field if self.fields > 0 => field(self.random.within(1, usize::from(self.fields)) as u16),
-            Sort::Object | Sort::Field => null(),
+            Sort::Object | Sort::Field | Sort::Unset => null(),
         }
     }
 

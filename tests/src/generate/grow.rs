@@ -10,6 +10,8 @@ pub enum Sort {
     Proc,
     Object,
     Field,
+    /// Nothing yet: no expression asks for it.
+    Unset,
 }
 
 pub const SORTS: [Sort; 4] = [Sort::Int, Sort::Proc, Sort::Object, Sort::Field];
@@ -94,6 +96,7 @@ impl Grower<'_> {
             Sort::Proc => 2,
             Sort::Object => 0,
             Sort::Field => 3,
+            Sort::Unset => return None,
         };
         let fitting: Vec<u16> = (1..=self.fields).filter(|index| index % 4 == turn).collect();
         if fitting.is_empty() {
@@ -176,17 +179,20 @@ impl Grower<'_> {
 
     fn declaration(&mut self) -> Branch {
         let (name, sort) = (self.name(), self.sort());
-        let first = self.random.below(4) > 0;
-        let inner = self.under(name, sort, |grower| {
-            let start = if sort == Sort::Object { malloc(name) } else { assign(name, grower.expression(sort, 2)) };
-            let rest = grower.command();
-            if first {
-                sequence(start, rest)
-            } else {
-                rest
-            }
-        });
-        var(name, inner)
+        if self.random.once_in(12) {
+            // it is used as if it were set
+            return var(name, self.under(name, sort, Self::command));
+        }
+        self.declared(name, sort, Self::command)
+    }
+
+    /// A declaration of a name that is set before the rest, which `make` makes.
+    pub fn declared(&mut self, name: u16, sort: Sort, make: impl FnOnce(&mut Self) -> Branch) -> Branch {
+        let start = match sort {
+            Sort::Object => malloc(name),
+            _ => assign(name, self.under(name, Sort::Unset, |grower| grower.expression(sort, 2))),
+        };
+        var(name, sequence(start, self.under(name, sort, make)))
     }
 
     fn call(&mut self) -> Branch {

@@ -50,7 +50,7 @@ pub fn frames_or_objects_without_end(grower: &mut Grower) -> Branch {
         }
     });
     if !grower.random.once_in(4) {
-        return var(name, repeat(constant(true), inner));
+        return var(name, sequence(malloc(name), repeat(constant(true), inner)));
     }
     // The first object is kept and compared with each newer one.
     let first = grower.names;
@@ -82,7 +82,11 @@ pub fn wide(grower: &mut Grower) -> Branch {
         _ => command,
     };
     grower.visible.pop();
-    var(name, inner)
+    match grower.random.below(3) {
+        0 => var(name, inner),
+        1 => var(name, sequence(assign(name, integer(1)), inner)),
+        _ => call(proc(name, inner), integer(1)),
+    }
 }
 
 /// A command that is opened into so many parts.

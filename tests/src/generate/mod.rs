@@ -9,6 +9,7 @@ mod express;
 mod grow;
 mod limits;
 mod themes;
+mod unset;
 pub mod written;
 
 use crate::random::Random;

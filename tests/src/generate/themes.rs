@@ -1,10 +1,11 @@
 //! Whole scripts, by theme: grown at random, close to the limits, deep, with long procedures and long bodies to compare, with a fault in
-//! an argument or a right side, with branches that wait for each other.
+//! an argument or a right side, with branches that wait for each other, with variables that are read before they are set.
 
 use super::bodies::long_bodies;
 use super::branches::branches;
 use super::grow::{Grower, Sort};
 use super::limits::{calls_without_end, frames_or_objects_without_end, to_the_brim, wide};
+use super::unset::unset;
 use crate::assemble::*;
 use crate::image::{children, row, Image, Word};
 use crate::random::Random;
@@ -27,8 +28,8 @@ pub fn script(random: &mut Random) -> Themed {
     let slips = random.pick(&[5, 20, 60, 200]);
     let all = if weights.iter().all(|&weight| weight == 0) { [1; 13] } else { weights };
     let grower = &mut Grower { random, names, fields, visible: Vec::new(), budget, weights: all, slips };
-    let theme = grower.random.below(23);
-    let far = matches!(theme, 0 | 1 | 4 | 8 | 9 | 11..=13);
+    let theme = grower.random.below(27);
+    let far = matches!(theme, 0 | 1 | 4 | 8 | 9 | 11..=14 | 18..=19);
     let root = match theme {
         0 => calls_without_end(grower),
         1 => frames_or_objects_without_end(grower),
@@ -39,8 +40,9 @@ pub fn script(random: &mut Random) -> Themed {
         8 => deep(grower),
         9 => to_the_brim(grower),
         10 => faulting(grower),
-        11..=13 => long_bodies(grower),
-        14..=15 => branches(grower),
+        11..=14 => long_bodies(grower),
+        15..=17 => branches(grower),
+        18..=19 => unset(grower),
         _ => grown(grower),
     };
     let root = if root.nodes() > MOST_NODES { skip() } else { root };
@@ -111,14 +113,10 @@ fn shuffled(random: &mut Random, image: &Image) -> Image {
 
 fn grown(grower: &mut Grower) -> Branch {
     let (outer, sort) = (grower.name(), grower.random.pick(&[Sort::Int, Sort::Object]));
-    let inner = grower.under(outer, sort, |grower| {
-        let start = if sort == Sort::Object { malloc(outer) } else { assign(outer, integer(1)) };
-        sequence(start, grower.command())
-    });
     if grower.random.once_in(8) {
         grower.command()
     } else {
-        var(outer, inner)
+        grower.declared(outer, sort, Grower::command)
     }
 }
 

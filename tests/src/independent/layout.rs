@@ -26,6 +26,7 @@ fn value_word(value: &Value) -> u64 {
         Value::Field(index) => (3, *index as u64),
         Value::Object(number) => (4, *number as u64),
         Value::Proc(proc, chain) => (5, placed(proc.at.0, chain)),
+        Value::Unset => (7, 0),
     };
     kind + 8 * payload
 }

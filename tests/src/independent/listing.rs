@@ -58,6 +58,7 @@ fn line(text: &mut String, what: std::fmt::Arguments) {
 
 fn value(value: &Value, codes: &[u16]) -> String {
     match value {
+        Value::Unset => "unset".to_string(),
         Value::Null => "null".to_string(),
         Value::Int(number) => format!("int {number}"),
         Value::Field(index) => format!("field {}", codes[index - 1]),

@@ -1,5 +1,5 @@
 -- `report::values::put_value` meets its contract. One law for each kind of value. Assumes nothing.
-use Rattle.report.proofs.ValueLaws.{value-nothing, value-null, value-int, value-field, value-object, value-proc}
+use Rattle.report.proofs.ValueLaws.{value-nothing, value-null, value-int, value-field, value-object, value-proc, value-unset}
 use borrow.Author.Needs.{needs}
 use Rattle.report.proofs.values.put_value.Statement.{statement}
 use Rattle.report.proofs.values.put_value.Tie as tie
@@ -22,6 +22,9 @@ returns-5 c = search (needs, value-object)
 returns-6 : tie.Need-returns-6
 returns-6 c = search (needs, value-proc)
 
+returns-7 : tie.Need-returns-7
+returns-7 c = search (needs, value-unset)
+
 pub put-value-spec : {M : Type 1} → statement M
 put-value-spec =
     tie.close
@@ -43,6 +46,9 @@ put-value-spec =
     (λ c. search needs)
     (λ c κs. search needs)
     (λ c. search needs)
+    (λ c. search needs)
+    (λ c κs. search needs)
+    (λ c. search needs)
     returns
     (λ c. search needs)
     returns-2
@@ -53,4 +59,6 @@ put-value-spec =
     (λ c. search needs)
     returns-5
     (λ c. search needs)
-    returns-6)
+    returns-6
+    (λ c. search needs)
+    returns-7)
