@@ -4,7 +4,7 @@
  * script from MiniOO text, one shows a script as text.
  * Each answer, and every word of what the caller lends, is the definitions' for every input: any bytes, any choices, any
  * workspace. They keep nothing between calls, allocate nothing and never stop the program. Give a call some 200 KB of
- * stack, flagcopper_write 4 MB: of the scripts measured, the deepest used 164 KB in a run and 1.84 MB there (docs/CHECK.md).
+ * stack, flagcopper_write 4 MB: of the scripts measured, the deepest used 148 KB in a run and 1.84 MB there (docs/CHECK.md).
  *
  * C can't say what the proofs rely on, so the caller owes it: a pointer isn't null, not even with length 0, and points
  * to as many aligned elements as its length says; what is lent to be written (workspace, rows, picks, words, output)
