@@ -46,17 +46,17 @@ fair_entries =
     -- A part that ends while others wait, `{A || {B || C}}`: A at 0, ends; B and C keep their places: B C. B at 0, leaves B': C B'. C at 1: B' C'. B' at 0,
     -- C' at 0.
     ∷ (taken first_ends 9 (turned (0 ∷ 0 ∷ 1 ∷ 0 ∷ 0 ∷ []) (shown (1 ∷ 5 ∷ []) 0 (replicate 2 (frame 0 Empty Unset)) [])) ∷ [])
-    -- A loop 𝓛 beside V, a var around K₁, then K₂; the loop's body is S. 𝓛 at 0: V S. V at 1: S K₁. S at 0, and the loop is opened again: K₁ W. K₁ at 1: 𝓛 K₂.
-    -- 𝓛 at 0: K₂ S. K₂ at 1, ends: S. S at 0: W. 𝓛 at 0: S. The list is full: end 4, with S and the loop that waits.
+    -- A loop W beside V, a var around K₁, then K₂; the loop's body is S. W at 0: V S. V at 1: S K₁. S at 0, and the loop is opened again: K₁ W. K₁ at 1: W K₂.
+    -- W at 0: K₂ S. K₂ at 1, ends: S. S at 0: W. W at 0: S. The list is full: end 4, with S and the loop that waits.
     ∷ (taken loop_beside 8 (turned (0 ∷ 1 ∷ 0 ∷ 1 ∷ 0 ∷ 1 ∷ 0 ∷ 0 ∷ []) (shown (4 ∷ 8 ∷ []) 2 (frame 0 Empty Unset ∷ []) [])) ∷ [])
     -- A sequence after a parallel, `{{{A || B}; {C || D}} || V}`, V a var around K₁, then K₂. A at 0, ends: B V. B at 0, ends, and C and D are opened: V C D,
     -- while control is C D V. V at 2: C D K₁. C at 0, D at 0, then K₁ at 0 and K₂ at 0.
     ∷ (taken after_parallel 9 (turned (0 ∷ 0 ∷ 2 ∷ 0 ∷ 0 ∷ 0 ∷ 0 ∷ []) (shown (1 ∷ 7 ∷ []) 0 (frame 0 Empty Unset ∷ []) [])) ∷ [])
-    -- A loop 𝓛 around an atom A of two commands, beside a loop X with the body S. 𝓛 at 0: X A. X at 1: A S. A at 0 enters, the leftmost at 0, the next at 0 and the
-    -- atom is left, 𝓛 opened: one turn, S W. S at 1: 𝓛 X. The same again: 0, 1, then 0 0 0, then 1. Full, both loops in control.
+    -- A loop W around an atom A of two commands, beside a loop X with the body S. W at 0: X A. X at 1: A S. A at 0 enters, the leftmost at 0, the next at 0 and the
+    -- atom is left, W opened: one turn, S W. S at 1: W X. The same again: 0, 1, then 0 0 0, then 1. Full, both loops in control.
     ∷ (taken atom_in_loop 12 (turned (0 ∷ 1 ∷ 0 ∷ 0 ∷ 0 ∷ 1 ∷ 0 ∷ 1 ∷ 0 ∷ 0 ∷ 0 ∷ 1 ∷ []) (shown (4 ∷ 12 ∷ []) 3 [] [])) ∷ [])
-    -- The loop 𝓛 with the body S on the left, the loop X around an atom A of two side by side on the right. 𝓛 at 0: X S. X at 1: S A. S at 0: A W. A at 1 enters;
-    -- inside, the left one at 0, the right one at 0, X opened: 𝓛 X. 𝓛 at 0: X S. X at 1: S A. S at 0: A W.
+    -- The loop W with the body S on the left, the loop X around an atom A of two side by side on the right. W at 0: X S. X at 1: S A. S at 0: A W. A at 1 enters;
+    -- inside, the left one at 0, the right one at 0, X opened: W X. W at 0: X S. X at 1: S A. S at 0: A W.
     -- Full, with W, A and the loop behind A.
     ∷ (taken loop_beside_atoms 9 (turned (0 ∷ 1 ∷ 0 ∷ 1 ∷ 0 ∷ 0 ∷ 0 ∷ 1 ∷ 0 ∷ []) (shown (4 ∷ 9 ∷ []) 4 [] [])) ∷ [])
     -- `{{A || B} || C}`, B an atom, A and C vars. A at 0: B C A'. B at 1 enters, its inside at 0, and it is left: C A'. C at 1: A' C'. A' at 0, C' at 0.

@@ -155,14 +155,14 @@ module _ {S E : Type 0} (m : Machine S E) where
 
   -- ---- what a turn without an end means for the run
 
-  unended-here : (n k : ℕ) (s : S) (t : Control) (l : Line)
+  unended-here : (l : Line) (n k : ℕ) (s : S) (t : Control)
       → Unended m l n s t
       → RunUnended (run_from m (picks_from m n s (some t) (some l)) k s (some t))
   unfolding ran line_after
-  unended-here _ k _ _ l (run-stops {n = n} {s = s} {t = t} {r = r} e) = rw (run-breaks m n s t l k r e) (stopped refl)
-  unended-here _ k _ _ l (still-inside {s = s} {t = t} a) = rw (picks-full m s (some t) (some l), run-used m k s t) (inside refl refl a)
-  unended-here _ k _ _ l (goes_further {n = n} {s = s} {s₁ = s₁} {t = t} {t₁ = t₁} e a u) =
-      rw (run_on m n s t l k s₁ t₁ e, a) (unended-here n (suc k) s₁ t₁ l u)
+  unended-here l _ k _ _ (run-stops {n = n} {s = s} {t = t} {r = r} e) = rw (run-breaks m n s t l k r e) (stopped refl)
+  unended-here l _ k _ _ (still-inside {s = s} {t = t} a) = rw (picks-full m s (some t) (some l), run-used m k s t) (inside refl refl a)
+  unended-here l _ k _ _ (goes_further {n = n} {s = s} {s₁ = s₁} {t = t} {t₁ = t₁} e a u) =
+      rw (run_on m n s t l k s₁ t₁ e, a) (unended-here l n (suc k) s₁ t₁ u)
 
   pub unended-run : (j left k : ℕ) (cs : List ℕ) (s s' : S) (t t' : Control) (l l' : Line)
       → Between t l
@@ -174,7 +174,7 @@ module _ {S E : Type 0} (m : Machine S E) where
         turns-picks m s' t' l' j cs s t l r b left,
         run-reaches m s' (some t') cs s (some t) (turns-reach m s' t' l' j cs s t l r) (picks_from m left s' (some t') (some l')) k,
       )
-      (unended-here left (k + length cs) s' t' l' u)
+      (unended-here l' left (k + length cs) s' t' u)
 
   -- ---- the same as any turn of a fair run begins, i whole turns after its start
 

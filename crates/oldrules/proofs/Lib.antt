@@ -11,4 +11,5 @@ pub mod SetDeeds
 pub mod SetSteps
 pub mod Until
 pub mod SetRuns
+pub mod SetRunsUntil
 pub mod SetCases

@@ -132,14 +132,6 @@ module _ (img cs : List ℕ) where
           ap (λ (k : ℕ). whole true (take k cs)) k-is ∙ u.used
       go false x = let y = x.1 in let z : ◌≡◌ {A = ℕ} 0 1 = cc in absurd (omega arith)
 
-  -- Up to the read of an unset variable the runs are the same, but for the cells that are unset then.
-  pub same-until-read : ReadUnset (run_script img cs) → SameButUnset (null_run img until) (used_up (run_script img cs))
-  unfolding ran
-  same-until-read x =
-      let e = not-read-yet x in
-      subst (SameButUnset (null_run img until)) e
-      (same-unless-read img until λ y. let used = sym y.1 ∙ ap (λ (r : Ran Store). r.end) e in let z : ◌≡◌ {A = ℕ} 0 1 = cc in omega arith)
-
 -- ---- before, no variable was unset
 
 -- an end that is not with fault 8

@@ -18,6 +18,7 @@ use Rattle.oldrules.specs.Compared.{StoresNone, FirstStored, SameRun}
 use Rattle.oldrules.specs.BeforeOrder5.{null_run, ReadUnset, used_up, SameButUnset}
 use Rattle.oldrules.proofs.EqualRuns as EqualRuns
 use Rattle.oldrules.proofs.SetRuns as SetRuns
+use Rattle.oldrules.proofs.SetRunsUntil as SetRunsUntil
 
 -- ======== order 2: a fault in a field must stop. Both sides have order 5's rule: an unset variable is fault 8 by the rules before order 2 too
 
@@ -53,7 +54,7 @@ module _ (img choices : List ℕ) where
   -- one that does is the run of before up to that step, which before came to something else: no run ended with fault 8
   pub same-until-read : ReadUnset (run_script img choices)
       → SameButUnset (null_run img (take (run_script img choices).steps choices)) (used_up (run_script img choices))
-  same-until-read = SetRuns.same-until-read img choices
+  same-until-read = SetRunsUntil.same-until-read img choices
 
   pub never-read-before : ReadUnset (null_run img choices) → ⊥
   never-read-before = SetRuns.never-read-before img choices

@@ -125,7 +125,7 @@ first-turn-begins img =
     let e = at_first_lem (start img) x.0 (start-calm img) x.1 in (
       x.0,
       record { first = x.0; is-first = x.1; choices = []; turns = no-turn },
-      rw (calm-moves (start img) (start-calm img)) (rw (calm-moves (start img) (start-calm img)) at e),
+      ap (λ (z : List Move). map (get_elem? z) (queue_of x.0)) (calm-moves (start img) (start-calm img)) ∙ e,
     )
 
 -- as a turn begins, i whole turns after the start
@@ -165,7 +165,9 @@ module _ (img : List ℕ) (i : ℕ) (s : Store) (t : Control) (l : Line) (begins
         let a = calm-moves t between.calm in
         let b = calm-moves t' (turn-calm (machine img) s' t' turn.inner turn.store turn.control turn.on) in
         let y = x.0 in
-        (y.ahead, y.moved, y.made, y.after, y.begun.position, a ∙ y.was, b ∙ y.now, rw (a, b) x.1)
+        let c = ap (λ (z : List Move). map (get_elem? z) (queue_of l')) b in
+        let d = ap (λ (z : List Move). map (get_elem? z) l.rest ++ map some y.made) (sym a) in
+        (y.ahead, y.moved, y.made, y.after, y.begun.position, a ∙ y.was, b ∙ y.now, c ∙ x.1 ∙ d)
 
     -- ======== "Inside an entered atom the leftmost always moves, and the whole atom counts as one turn."
 

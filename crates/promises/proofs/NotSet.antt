@@ -33,7 +33,8 @@ use Rattle.safety.proofs.NotGivenBack.{object-numbered}
 use Rattle.safety.proofs.ReadNodes as ReadNodes
 use Rattle.safety.proofs.OperandFaults.{Faults, left-first, right-next}
 use Rattle.safety.proofs.UnsetRead as UnsetRead
-use Rattle.safety.proofs.UnsetRuns.{unset-from-nothing, unset-if, declared-reaches}
+use Rattle.safety.proofs.UnsetRuns.{unset-from-nothing, declared-reaches}
+use Rattle.safety.proofs.UnsetIf.{unset-if}
 use Rattle.promises.specs.Saying.{At}
 
 -- "Let a cell made by var begin as unset": a declaration comes to nothing else

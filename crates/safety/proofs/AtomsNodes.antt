@@ -16,7 +16,7 @@ use Rattle.rules.specs.Script.{Script, Procedure, formal}
 use Rattle.rules.specs.Eval.{Res, ok, fault, stuck, ◌>>=◌, Closure, closure}
 use Rattle.rules.specs.Control.{Control, move, movable, goes_to}
 use Rattle.safety.specs.Safe.{Nested}
-use Rattle.rules.specs.Step.{does, step, Deed, deed, enter, calling, into_field, exec_by, exec, mini_oo}
+use Rattle.rules.specs.Step.{step, Deed, deed, enter, calling, into_field, exec_by, exec, mini_oo}
 use Rattle.safety.specs.Atoms.{Sealed, AtomMoves}
 use Rattle.safety.proofs.Plans.{RuleDoes}
 use Rattle.safety.proofs.ReachesStep.{Goes, goes-only}

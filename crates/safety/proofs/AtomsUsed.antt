@@ -12,7 +12,7 @@ use Rattle.rules.specs.Control.{Control, entered, opened, Move, movable, goes_to
 use Rattle.rules.specs.Step.{Machine, step}
 use Rattle.safety.specs.Reaches.{Reaches, stays, goes}
 use Rattle.safety.specs.Atoms.{InPlace, OnlyBlock, still-inside, was-left, Sealed}
-use Rattle.safety.proofs.Becoming.{becomes-once}
+use Rattle.safety.proofs.BecomingOnce.{becomes-once}
 use Rattle.safety.proofs.Reaches.{Between, reach-on, reach_split, reach-same}
 
 module _ {S E : Type 0} (m : Machine S E) where
@@ -50,20 +50,20 @@ module _ {S E : Type 0} (m : Machine S E) where
       none-ne-some v (sym (ended-stays ds x.store s₂ (some v) r).2)
 
   -- a run ends once
-  ends-once : (cs ds xs ys : List ℕ) (s s₁ s₂ : S) (o : Option Control)
+  ends-once : (s₁ : S) (cs ds xs ys : List ℕ) (s s₂ : S) (o : Option Control)
       → Reaches m s₁ none cs s o
       → Reaches m s₂ none ds s o
       → cs ++ xs ≡ ds ++ ys
       → (s₁ ≡ s₂) × (xs ≡ ys)
-  ends-once _ ds xs ys s _ s₂ _ stays b e =
+  ends-once _ _ ds xs ys s s₂ _ stays b e =
       let x : (ds ≡ []) × (s₂ ≡ s) × (none ≡ none) = ended-stays ds s s₂ none b in
       (sym x.1, rw x.0 at e)
-  ends-once _ _ xs ys _ s₁ s₂ _ (goes {i = i} {cs = cs} {s = s} {t = t} {s₁ = s₃} {o = o} e a) (goes {i = j} {cs = ds} {s₁ = s₄} {o = p} f b) h =
+  ends-once s₁ _ _ xs ys _ s₂ _ (goes {i = i} {cs = cs} {s = s} {t = t} {s₁ = s₃} {o = o} e a) (goes {i = j} {cs = ds} {s₁ = s₄} {o = p} f b) h =
       let k : i ≡ j = cc in
       let q : goes_to s₄ p ≡ goes_to s₃ o = sym f ∙ ap (step m s t) (sym k) ∙ e in
       let x : s₄ ≡ s₃ = cc in
       let y : p ≡ o = cc in
-      ends-once cs ds xs ys s₃ s₁ s₂ o a (rw (x, y) at b) (cc)
+      ends-once s₁ cs ds xs ys s₃ s₂ o a (rw (x, y) at b) (cc)
 
   -- ---- the block, by its run alone
 
@@ -148,7 +148,7 @@ module _ {S E : Type 0} (m : Machine S E) where
     no-other-moves cs s₁ v a s' t' r w f k e = f k (rw (open-moves cs s₁ v a s' t' r) at e)
 
     -- since the choices ds, with which the block alone hasn't ended
-    moves-on : (cs : List ℕ) (s₁ : S) (p : Option Control) (s₀ : S) (q : Option Control)
+    moves-on : (s₁ : S) (p : Option Control) (cs : List ℕ) (s₀ : S) (q : Option Control)
         → (a : Reaches m s₁ p cs s₀ q)
         → (v : Control)
         → q ≡ some v
@@ -159,12 +159,12 @@ module _ {S E : Type 0} (m : Machine S E) where
         → (s' : S) (o' : Option Control) (r : Reaches m s' o' cs s₂ o₂)
         → moved r ≡ moved a
     unfolding moved
-    moves-on _ s₁ p _ _ stays v e ds b s₂ o₂ z _ _ stays = refl
-    moves-on _ s₁ p _ _ (goes {i = j} {cs = cs} {s = s₀} {t = w} {s₁ = s₃} {o = q} f a) v e ds b _ _ z s' o' (goes {s = s₂} {t = t₂} {s₁ = s₄} {o = o₄} g r) =
+    moves-on s₁ p _ _ _ stays v e ds b s₂ o₂ z _ _ stays = refl
+    moves-on s₁ p _ _ _ (goes {i = j} {cs = cs} {s = s₀} {t = w} {s₁ = s₃} {o = q} f a) v e ds b _ _ z s' o' (goes {s = s₂} {t = t₂} {s₁ = s₄} {o = o₄} g r) =
         let k : w ≡ v = some-injective w v e in
         let first : movable t₂ ≡ movable w = open-moves ds s₀ v b s₂ t₂ z ∙ ap movable (sym k) in
         let rest : moved r ≡ moved a =
-        go q refl k (λ v₂ h ds₂ b₂ z₂. moves-on cs s₁ p s₃ q a v₂ h ds₂ b₂ s₄ o₄ z₂ s' o' r) in
+        go q refl k (λ v₂ h ds₂ b₂ z₂. moves-on s₁ p cs s₃ q a v₂ h ds₂ b₂ s₄ o₄ z₂ s' o' r) in
         rw (first, rest)
       where
         u : Control
@@ -188,7 +188,7 @@ module _ {S E : Type 0} (m : Machine S E) where
         → (s' : S) (o' : Option Control) (r : Reaches m s' o' cs s o)
         → moved r ≡ moved a
     block-moves cs s₁ p a s' o' r =
-        moves-on cs s₁ p s (some (opened (m.cmd_at n) ch)) a (opened (m.cmd_at n) ch) refl [] stays s o stays s' o' r
+        moves-on s₁ p cs s (some (opened (m.cmd_at n) ch)) a (opened (m.cmd_at n) ch) refl [] stays s o stays s' o' r
 
     -- when it has ended, with the first of the choices: the others go on from control with nothing in its place
     pub block-left : (first later : List ℕ) (s₁ : S)
@@ -207,5 +207,5 @@ module _ {S E : Type 0} (m : Machine S E) where
         go (still-inside y) = absurd (after-end first later s s₁ s' (some u) y.inner a y.alone)
         go (was-left y) =
             let same : (y.store ≡ s₁) × (y.later ≡ later) =
-            ends-once y.first first y.later later s y.store s₁ (some u) y.alone a (sym y.is) in
+            ends-once y.store y.first first y.later later s s₁ (some u) y.alone a (sym y.is) in
             rw (becomes-once m.cmd_at t i none y.closed nothing, same.0, same.1) at y.on

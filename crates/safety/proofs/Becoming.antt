@@ -16,12 +16,9 @@ module _ (cmd_at : ℕ → Cmd) (t : Control) (i : ℕ) (p : Option Control) whe
   unfolding around
   put-becomes n ch e = tree-only cmd_at _ t i n ch (goes_to tt p) e refl
 
-  becomes-put : {o : Option Control} → InPlace cmd_at t i p o → o ≡ put cmd_at t i p
+  pub becomes-put : {o : Option Control} → InPlace cmd_at t i p o → o ≡ put cmd_at t i p
   unfolding around
   becomes-put d =
       let m = tree-if cmd_at _ d in
       let e = m.whole ∙ ap (around cmd_at t i) m.makes in
       cc
-
-  pub becomes-once : {o o' : Option Control} → InPlace cmd_at t i p o → InPlace cmd_at t i p o' → o ≡ o'
-  becomes-once d d' = becomes-put d ∙ sym (becomes-put d')

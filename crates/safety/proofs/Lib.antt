@@ -12,7 +12,9 @@ pub mod Published
 pub mod Focus
 pub mod Plug
 pub mod OpenedNeeds
+pub mod OpenedParts
 pub mod Suffice
+pub mod SufficeNames
 pub mod ReachesStep
 pub mod Reaches
 pub mod Ends
@@ -20,12 +22,14 @@ pub mod SoFar
 pub mod AtomsInside
 pub mod Entered
 pub mod Becoming
+pub mod BecomingOnce
 pub mod Atoms
 pub mod AtomsUsed
 pub mod AtomsNodes
 pub mod Plans
 pub mod Rooms
 pub mod RoomsRuns
+pub mod RoomsRunsIf
 pub mod Preserved
 pub mod ReachesMoments
 pub mod MomentsUsed
@@ -41,6 +45,7 @@ pub mod AtomsCases
 pub mod NotGivenBack
 pub mod UnsetSteps
 pub mod UnsetRuns
+pub mod UnsetIf
 pub mod UnsetRead
 pub mod OperandFaults
 pub mod ReadNodes

@@ -22,7 +22,7 @@ use Rattle.safety.proofs.Plug.{nested-opened}
 
 module _ (sc : Script) (visible : Names) (ch : Chain) where
   -- Q of every command of a tree, and those that can move are command parts
-  abbrev Each : (ℕ → Chain → Type 0) → Control → Type 0
+  abbrev pub Each : (ℕ → Chain → Type 0) → Control → Type 0
   Each Q (command n dh) = T (single (sc.cmd_at n)) × Q n dh
   Each Q (followed t n dh) = Each Q t × Q n dh
   Each Q (beside l r) = Each Q l × Each Q r
@@ -34,7 +34,7 @@ module _ (sc : Script) (visible : Names) (ch : Chain) where
   each_more P Q f (beside l r) h = (each_more P Q f l h.0, each_more P Q f r h.1)
   each_more P Q f (entered t) h = each_more P Q f t h
 
-  each_at : (Q : ℕ → Chain → Type 0) (C : Around.Around) (u : Control) → Each Q (Around.plug C u) → Each Q u
+  pub each_at : (Q : ℕ → Chain → Type 0) (C : Around.Around) (u : Control) → Each Q (Around.plug C u) → Each Q u
   unfolding Around.plug
   each_at Q Around.here u h = h
   each_at Q (Around.after_it C n dh) u h = each_at Q C u h.0
@@ -42,7 +42,7 @@ module _ (sc : Script) (visible : Names) (ch : Chain) where
   each_at Q (Around.right_of l C) u h = each_at Q C u h.1
   each_at Q (Around.inside C) u h = each_at Q C u h
 
-  each-waits : (Q : ℕ → Chain → Type 0) (t : Control) (n : ℕ) (dh : Chain) → Each Q t → Waits t n dh → Q n dh
+  pub each-waits : (Q : ℕ → Chain → Type 0) (t : Control) (n : ℕ) (dh : Chain) → Each Q t → Waits t n dh → Q n dh
   each-waits Q _ n dh h next = h.1
   each-waits Q _ n dh h (within {t = t} w) = each-waits Q t n dh h.0 w
   each-waits Q _ n dh h (on-left {l = l} w) = each-waits Q l n dh h.0 w
@@ -71,7 +71,7 @@ module _ (sc : Script) (visible : Names) (ch : Chain) where
   part a c f n dh h = record { chain = h.chain; scoped = h.scoped; less = λ x k. f x (h.less x k) }
 
   -- when a command is opened, each command then in control stands in its chain and needs no more than it did
-  opened-less : (c : Cmd) → FitCmd sc visible c → Each (Less c) (opened c ch)
+  pub opened-less : (c : Cmd) → FitCmd sc visible c → Each (Less c) (opened c ch)
   unfolding opened single cmd_no needs
   opened-less (no_cmd n) h = absurd h
   opened-less (var n x c) h = alone (var n x c) tt h
@@ -91,13 +91,3 @@ module _ (sc : Script) (visible : Names) (ch : Chain) where
     each_more (Less b) (Less (par n a b)) (part b (par n a b) λ x. or-from-right (needs a x) (needs b x)) (opened b ch) (opened-less b h.2),
   )
   opened-less (atom n c) h = alone (atom n c) tt h
-
-  pub opened-waits : (c : Cmd) → FitCmd sc visible c → (n : ℕ) (dh : Chain) → Waits (opened c ch) n dh → Less c n dh
-  opened-waits c h n dh w = each-waits (Less c) (opened c ch) n dh (opened-less c h) w
-
-  pub opened-moves : (c : Cmd) → FitCmd sc visible c → (i n : ℕ) (dh : Chain)
-      → get_elem? (movable (opened c ch)) i ≡ some (move n dh)
-      → T (single (sc.cmd_at n)) × Less c n dh
-  opened-moves c h i n dh p =
-      let f : Focus sc.cmd_at (opened c ch) n dh (put sc.cmd_at (opened c ch) i) = focus sc.cmd_at (opened c ch) i n dh (nested-opened c ch) p in
-      each_at (Less c) f.around (command n dh) (subst (Each (Less c)) f.is (opened-less c h))

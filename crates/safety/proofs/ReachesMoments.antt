@@ -20,7 +20,7 @@ use Rattle.rules.specs.Step.{step, mini_oo}
 use Rattle.rules.specs.Run.{run_from, Start, run, begins}
 use Rattle.rules.specs.Numbers.{end_no, end_values}
 use Rattle.rules.proofs.ControlLaws.{some-moves}
-use Rattle.safety.specs.Safe.{FitCmd, RealCell, Safe}
+use Rattle.safety.specs.Safe.{FitCmd, RealCell, Given, Safe}
 use Rattle.safety.specs.Needs.{needs}
 use Rattle.safety.specs.Found.{Borne, HeldIn}
 use Rattle.safety.specs.Reaches.{Moment, Left}
@@ -32,7 +32,7 @@ use Rattle.safety.proofs.Entered.{innermost, others-wait}
 use Rattle.safety.proofs.AtomsNodes.{only-that-atom-moves}
 use Rattle.safety.proofs.Preserved.{start-safe, reaches-safe, ready_at, run_sound}
 
-module _ (sc : Script) (st : Start Store) (root : ℕ) (cs : List ℕ) (fit : FitCmd sc st.names (sc.cmd_at root)) where
+module _ (sc : Script) (st : Start Store) (given : Given sc st) (root : ℕ) (cs : List ℕ) (fit : FitCmd sc st.names (sc.cmd_at root)) where
   pub moment-safe : (s : Store) (o : Option Control) → Moment (mini_oo sc) st root cs s o → Safe sc s o
   moment-safe s o x =
       reaches-safe sc s o x.used st.store (some (begins (mini_oo sc) st root)) x.reached (start-safe sc st given root fit x.fits)

@@ -21,7 +21,7 @@ use Rattle.safety.specs.Fits.{Fine}
 use Rattle.safety.specs.Found.{Borne}
 use Rattle.safety.specs.Needs.{needs_exp, needs_test, needs}
 use Rattle.safety.proofs.LinksNeeded.{Bear, first, second}
-use Rattle.safety.proofs.OpenedNeeds.{opened-moves}
+use Rattle.safety.proofs.OpenedParts.{opened-moves}
 use Rattle.safety.proofs.Fine.{Any, Of, Stated, fine_bind, fine-there, fine-object, fine-field, fine-proc, fine-object-at, fine-field-of, fine-find, eval-borne, test-borne}
 
 module _ (sc : Script) (s : Store) (good : RealStore sc s) (visible : Names) (ch : Chain) where
@@ -45,7 +45,7 @@ module _ (sc : Script) (s : Store) (good : RealStore sc s) (visible : Names) (ch
       fine_bind sc (RealObject sc s) Any (there (object_at s o)) _ (fine-object-at sc s good o l) λ obj fits.
       fine_bind sc Held Any (there (field_of obj f)) _ (fine-field-of sc s (Stated sc) (λ n dh p. (_, p.is)) obj f fits m) λ old _. tt
 
-  fine-single : (c : Cmd) → T (single c) → FitCmd sc visible c → Bear s ch (needs c) → Fine sc Any (exec sc s ch c)
+  pub fine-single : (c : Cmd) → T (single c) → FitCmd sc visible c → Bear s ch (needs c) → Fine sc Any (exec sc s ch c)
   unfolding exec_by single needs
   fine-single (no_cmd n) t h b = h
   fine-single (var n x c) t h b = tt
@@ -73,13 +73,3 @@ module _ (sc : Script) (s : Store) (good : RealStore sc s) (visible : Names) (ch
   fine-single (if n e c d) t h b = fine_bind sc Any Any (test sc s ch e) _ (fine-cond e h.1 b) λ z _. tt
   fine-single (par n a c) t h b = absurd t
   fine-single (atom n c) t h b = tt
-
-  pub needed-names-suffice : (c : Cmd) → T (single c) → FitCmd sc visible c → ((x : ℕ) → T (needs c x) → Borne s ch x) → exec sc s ch c ≡ stuck → ⊥
-  needed-names-suffice c t h b e = subst (Fine sc Any) e (fine-single c t h b)
-
-  -- .. and for a sequence or parallel, when it is opened
-  pub opened-names-suffice : (c : Cmd) → FitCmd sc visible c → ((x : ℕ) → T (needs c x) → Borne s ch x)
-      → (i n : ℕ) (dh : Chain) → get_elem? (movable (opened c ch)) i ≡ some (move n dh) → exec sc s dh (sc.cmd_at n) ≡ stuck → ⊥
-  opened-names-suffice c h b i n dh p =
-      let m = opened-moves sc visible ch c h i n dh p in
-      rw m.1.chain (needed-names-suffice (sc.cmd_at n) m.0 m.1.scoped λ x k. b x (m.1.less x k))

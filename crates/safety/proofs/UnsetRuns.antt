@@ -62,15 +62,10 @@ module _ (sc : Script) (k : ℕ) (s' : Store) (o' : Option Control) where
             untouched = d.untouched;
           })
 
-  not-stored-unset : (cs : List ℕ) (s : Store) (o : Option Control) → NotStored sc k s' o' cs s o → UnsetAt s k → UnsetAt s' k
+  pub not-stored-unset : (cs : List ℕ) (s : Store) (o : Option Control) → NotStored sc k s' o' cs s o → UnsetAt s k → UnsetAt s' k
   not-stored-unset _ _ _ stays u = u
   not-stored-unset _ _ _ (goes {i = i} {cs = cs} {s = s} {t = t} {s₁ = s₁} {o = o} free e n) u =
       not-stored-unset cs s₁ o n (unset-after sc s t i s₁ o e k u free)
-
-  pub unset-if : (cs : List ℕ) (s : Store) (o : Option Control) → DeclaredOnly sc k s' o' cs s o → UnsetAt s' k
-  unset-if cs s o d =
-      not-stored-unset d.since d.next d.left d.untouched
-      (declared-unset sc d.store d.control d.choice d.next d.left d.steps k d.declares)
 
   -- from the start with nothing none is unset at the beginning
   pub unset-from-nothing : (cs : List ℕ) (o : Option Control) → Reaches (mini_oo sc) s' o' cs empty o → UnsetAt s' k → DeclaredOnly sc k s' o' cs empty o
