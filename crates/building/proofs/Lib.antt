@@ -1,3 +1,4 @@
 pub mod BuildLaws
 pub mod PassedLaws
 pub mod FinishLaws
+pub mod Cited

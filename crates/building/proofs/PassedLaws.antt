@@ -8,8 +8,6 @@ use mathlib.Core.List.{List, [], ◌∷◌, ◌++◌, append_assoc, append-nil}
 use native.Mathlib.Omega.{arith}
 use native.Mathlib.Decide.{ℕ_discrete}
 use lib.ListN.{length, get_or, length-append}
-use types.Run.{OneOf, miss}
-use denote.Enum.Declared.{tag_of}
 use Rattle.reading.specs.Items.{Item, put}
 use Rattle.reading.specs.Table.{Due, command, body, var_name, var_semi, malloc_open, malloc_name, atom_open, middle, shut, otherwise, close, close_node, node, test, test_left, test_minus, operand, negative, name_first, first, first_dot, first_dotted, first_minus, becomes_due, expression, sel, sel_dot, after_minus, sel_minus, sel_minus_dot, proc_name, proc_colon, Act, take, pass, refuse, does, over, finish}
 use Rattle.dues.specs.declared.Made.{Made}
@@ -17,7 +15,6 @@ use Rattle.dues.specs.declared.Deed.{Deed}
 use Rattle.dues.specs.declared.Deed.TheVariants.{Take, Pass, Refuse}
 use Rattle.dues.specs.Words.{passed, due_word, made_items, deed_of, in_words}
 use Rattle.dues.specs.Stack.{DueFits, Stacked, passing, PassesAll, passed_items}
-use Rattle.dues.specs.contracts.Deed.{the_type}
 use Rattle.dues.proofs.StackLaws.{Learns, Looked, asked, stack_top, stack-left, stack-length}
 use Rattle.building.specs.Built.{Roomy, Adds, WordPasses, Passed, EndSays}
 use Rattle.building.proofs.BuildLaws.{nothing-added, both-added, one-made}
@@ -230,11 +227,11 @@ all-sunk work depth floor kind i start m n img firsts img' firsts' s l above lef
 -- ---- an answer that passes nothing
 
 abbrev pub Stops : Deed → Type 0
-Stops r = OneOf (0 ∷ 2 ∷ []) (tag_of the_type r)
+Stops r = (m : Made) → r ≡ Pass m → ⊥
 
 not-passed : (r : Deed) (is : List Item) → Stops r → deed_of r ≡ passed is → ⊥
 not-passed (Take v m) is h e = let z : ◌≡◌ {A = ℕ} 1 0 = cc in omega arith
-not-passed (Pass m) is h e = miss (0 ∷ 2 ∷ []) 1 tt h
+not-passed (Pass m) is h e = h m refl
 not-passed Refuse is h e = let z : ◌≡◌ {A = ℕ} 1 0 = cc in omega arith
 
 -- so it isn't given where a thing due is passed

@@ -9,6 +9,7 @@ ghost use Rattle.building.specs.Built.{Roomy, Adds, WordPasses, Passed, EndSays}
 use dues::{Deed, Made};
 
 // A node, or none, behind the m that are there; 2,049 stands for more than 2,048, and of those beyond none is put.
+#[tactic(auto, using(crate::proofs::BuildLaws::no_node, crate::proofs::BuildLaws::no_room, crate::proofs::Cited::build_put_made_lemmas))]
 pub fn put_made(img: &mut [u8], firsts: &mut [u16], start: usize, m: usize, made: Made) -> usize
     requires roomy { Roomy start img.old firsts.old }
     requires m_bound { (m ≤ 2049) × (made.tag < 65536) }

@@ -1,6 +1,8 @@
 // The check of a script image (document 01, "Refused scripts"): the first broken rule in the fixed order, and its place.
 // Each group of rules has its own function; a reason is its number, and 0 is none. Linear in the number of nodes.
 
+#![tactic(auto)]
+
 ghost use Rattle.std.specs.Prelude.{◌≡◌, ◌<◌, ◌≤◌, length};
 ghost use Rattle.rules.specs.Image.{fields_of, nodes_of};
 ghost use Rattle.rules.specs.Refusals.{bad_contents, check};
@@ -16,6 +18,7 @@ use rules::{MOST_FIELDS, MOST_NAMES, MOST_NODES, SIZE, Verdict};
 // ---- 10, 1, 2 and 3
 
 // 2: is a start or a count in the contents wrong?
+#[tactic(auto, using(checklaws::proofs::Head::contents))]
 fn contents_wrong(img: &[u8]) -> bool
     requires { 10 ≤ length img.now }
     ensures { result ≡ bad_contents img.now }
@@ -40,6 +43,7 @@ fn contents_wrong(img: &[u8]) -> bool
     MOST_NAMES < image::names(img)
 }
 
+#[tactic(auto, using(checklaws::proofs::Head::heads))]
 fn head(script: &[u8], words: usize) -> u32
     ensures { result ≡ head_reason words script.now }
 {
@@ -64,6 +68,7 @@ fn head(script: &[u8], words: usize) -> u32
 // ---- 4
 
 // Is the code at a position zero, or not above the one before?
+#[tactic(auto, using(checklaws::proofs::Words::coding))]
 fn code_reason(img: &[u8], i: usize) -> u32
     requires sized { Sized img.now }
     requires i_bound { i < fields_of img.now }
@@ -80,6 +85,7 @@ fn code_reason(img: &[u8], i: usize) -> u32
     if k <= j { 4 } else { 0 }
 }
 
+#[tactic(auto, using(checklaws::proofs::Places::placing))]
 fn codes(img: &[u8]) -> Verdict
     requires { Sized img.now }
     ensures { result ≡ rules_say img.now code_rules (fields_of img.now) }
@@ -98,6 +104,7 @@ fn codes(img: &[u8]) -> Verdict
 
 // ---- the whole check: each group is looked at when no earlier rule is broken; low and high are the names visible at the root
 
+#[tactic(auto, using(checklaws::proofs::Formed::formed, checklaws::proofs::Whole::wholes), unfolding(checklaws::specs::Rest::uses_say))]
 fn uses_on(img: &[u8], low: u64, high: u64) -> Verdict
     requires sized { Sized img.now }
     requires img_value { rules_say img.now node_rules (nodes_of img.now) ≡ Accepted }
@@ -110,6 +117,7 @@ fn uses_on(img: &[u8], low: u64, high: u64) -> Verdict
     }
 }
 
+#[tactic(auto, using(checklaws::proofs::Whole::wholes), unfolding(checklaws::specs::Rest::nodes_say))]
 fn nodes_on(img: &[u8], low: u64, high: u64) -> Verdict
     requires { Sized img.now }
     ensures { (visible : Names) → Shows low high visible → result ≡ nodes_say visible img.now }
@@ -121,6 +129,7 @@ fn nodes_on(img: &[u8], low: u64, high: u64) -> Verdict
     }
 }
 
+#[tactic(auto, using(checklaws::proofs::Whole::wholes), unfolding(checklaws::specs::Rest::bodies_say))]
 fn bodies(img: &[u8], low: u64, high: u64) -> Verdict
     requires { Sized img.now }
     ensures { (visible : Names) → Shows low high visible → result ≡ bodies_say visible img.now }
@@ -134,6 +143,7 @@ fn bodies(img: &[u8], low: u64, high: u64) -> Verdict
 
 // Accepted, or the first broken rule in the fixed order and its place; for every script, every length of workspace and any
 // names visible at the root: bit x of low is name x, bit x of high is name 64 + x.
+#[tactic(auto, using(checklaws::proofs::Whole::wholes, checklaws::proofs::Head::heads))]
 pub fn check(script: &[u8], workspace_words: usize, low: u64, high: u64) -> Verdict
     ensures { (visible : Names) → Shows low high visible → result ≡ check visible workspace_words script.now }
 {

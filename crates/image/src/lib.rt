@@ -3,6 +3,8 @@
 //
 // Zero is no tag: `Sort::Nothing` and `Shape::NoTag` stand for it and for every other number that is none.
 
+#![tactic(auto)]
+
 ghost use Rattle.std.specs.Prelude.{◌≡◌, ◌+◌, ◌*◌, ◌<◌, ◌≤◌, length};
 ghost use Rattle.std.proofs.Math.Option.{some};
 ghost use Rattle.rules.specs.Image.{word_at, fields_of, nodes_of, names_of, code_at, part_of, node_at, kind_of, row, row_of};
@@ -44,6 +46,7 @@ pub fn word(img: &[u8], at: usize) -> usize
 }
 
 // F, the number of fields.
+#[tactic(auto, unfolding(rules::specs::Image::fields_of))]
 pub fn fields(img: &[u8]) -> usize
     requires { 10 ≤ length img.now }
     ensures { (result ≡ fields_of img.now) × (result < 65536) }
@@ -52,6 +55,7 @@ pub fn fields(img: &[u8]) -> usize
 }
 
 // M, the number of nodes.
+#[tactic(auto, unfolding(rules::specs::Image::nodes_of))]
 pub fn nodes(img: &[u8]) -> usize
     requires { 10 ≤ length img.now }
     ensures { (result ≡ nodes_of img.now) × (result < 65536) }
@@ -60,6 +64,7 @@ pub fn nodes(img: &[u8]) -> usize
 }
 
 // N, the number of names.
+#[tactic(auto, unfolding(rules::specs::Image::names_of))]
 pub fn names(img: &[u8]) -> usize
     requires { 10 ≤ length img.now }
     ensures { (result ≡ names_of img.now) × (result < 65536) }
@@ -68,6 +73,7 @@ pub fn names(img: &[u8]) -> usize
 }
 
 // The attribute code at a position from 0.
+#[tactic(auto, unfolding(rules::specs::Image::code_at))]
 pub fn code(img: &[u8], i: usize) -> usize
     requires sized { Sized img.now }
     requires i_bound { i < fields_of img.now }
@@ -76,6 +82,7 @@ pub fn code(img: &[u8], i: usize) -> usize
     word(img, 10 + 2 * i)
 }
 
+#[tactic(auto, unfolding(rules::specs::Image::part_of))]
 fn part(img: &[u8], start: usize, n: usize, i: usize) -> usize
     requires sized { Sized img.now }
     requires start_value { (start ≡ 10 + 2 * fields_of img.now) × ((n < nodes_of img.now) × (i < 4)) }
@@ -84,6 +91,7 @@ fn part(img: &[u8], start: usize, n: usize, i: usize) -> usize
     word(img, start + 8 * n + 2 * i)
 }
 
+#[tactic(auto, unfolding(rules::specs::Image::fields_of))]
 fn nodes_at(img: &[u8]) -> usize
     requires { Sized img.now }
     ensures { result ≡ 10 + 2 * fields_of img.now }
@@ -92,6 +100,7 @@ fn nodes_at(img: &[u8]) -> usize
 }
 
 // The four words of a node.
+#[tactic(auto, unfolding(rules::specs::Image::node_at))]
 pub fn read(img: &[u8], n: usize) -> Node
     requires sized { Sized img.now }
     requires n_bound { n < nodes_of img.now }
@@ -108,6 +117,7 @@ pub fn read(img: &[u8], n: usize) -> Node
 
 // The tag of a node alone, for those who read its other words only where the tag says what they are: loaded in every case, they
 // take registers from all of them.
+#[tactic(auto, unfolding(rules::specs::Image::node_at))]
 pub fn tag_of(img: &[u8], n: usize) -> usize
     requires sized { Sized img.now }
     requires n_bound { n < nodes_of img.now }
@@ -118,6 +128,7 @@ pub fn tag_of(img: &[u8], n: usize) -> usize
 }
 
 // "Tags 1 to 7 are expressions, 16 to 19 tests, 32 to 42 commands; no other number is a tag."
+#[tactic(auto, unfolding(rules::specs::Image::kind_of))]
 pub fn kind(tag: usize) -> Sort
     ensures { kind_is result ≡ kind_of tag }
 {
@@ -136,6 +147,7 @@ fn words(a: Role, b: Role, c: Role) -> Shape
 }
 
 // The table of tags: what the words a, b and c of a node are.
+#[tactic(auto, using(crate::proofs::Rows::absent), unfolding(rules::specs::Image::row_of, rules::specs::Image::row_in, rules::specs::Image::line_of, rules::specs::Image::line_in, rules::specs::Image::tags))]
 pub fn operands(tag: usize) -> Shape
     ensures { row_is result ≡ row_of tag }
 {

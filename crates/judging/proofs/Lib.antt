@@ -1,3 +1,4 @@
 pub mod WorthLaws
 pub mod DecideLaws
 pub mod JudgeLaws
+pub mod Cited

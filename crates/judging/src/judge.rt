@@ -55,6 +55,7 @@ fn valued(w: u32, k: u32, x: Worth, q: usize, n: usize) -> Judged
 }
 
 // The next place, as far as it is read: a bad byte, a token that nothing takes, one that has no value, or one that is taken.
+#[tactic(auto, using(crate::proofs::Cited::judge_judge_lemmas))]
 pub fn judge(
     text: &[u8],
     list: &[u8],

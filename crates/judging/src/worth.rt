@@ -32,6 +32,7 @@ pub enum Worth {
 }
 
 // the name's number, counted from 1; 0 where it isn't among the names so far
+#[tactic(auto, using(fieldlist::proofs::SameLaws::found, crate::proofs::Cited::worth_name_index_lemmas))]
 pub fn name_index(
     text: &[u8],
     starts: &[usize; 128],
@@ -58,6 +59,7 @@ pub fn name_index(
 }
 
 // of an index from 1, 0 where there is none, and the number of names so far
+#[tactic(auto, using(crate::proofs::WorthLaws::name_new, crate::proofs::Cited::worth_of_name_lemmas))]
 fn of_name(i: u32, n: usize) -> Worth
     ensures { result ≡ name_worth i n }
 {
@@ -70,6 +72,7 @@ fn of_name(i: u32, n: usize) -> Worth
     Worth::Wrong(ONE_NAME_MORE)
 }
 
+#[tactic(auto, using(crate::proofs::Cited::worth_of_field_lemmas))]
 fn of_field(i: u32) -> Worth
     ensures { result ≡ field_worth i }
 {
@@ -79,6 +82,7 @@ fn of_field(i: u32) -> Worth
     Worth::Known(i)
 }
 
+#[tactic(auto, using(crate::proofs::Cited::worth_of_number_lemmas))]
 fn of_number(n: u64) -> Worth
     ensures { result ≡ number_worth n }
 {
@@ -89,6 +93,7 @@ fn of_number(n: u64) -> Worth
 }
 
 // the place is no bad byte
+#[tactic(auto, using(crate::proofs::WorthLaws::by_name_lem, crate::proofs::WorthLaws::by_field_lem, crate::proofs::WorthLaws::by_number, crate::proofs::Cited::worth_worth_of_lemmas))]
 pub fn worth_of(
     text: &[u8],
     list: &[u8],

@@ -2,6 +2,8 @@
 // node is reached, its visible names are known, and it hands them to its children, with the name that it declares.
 // The root's are given. Names are 0 to 127, so those of a node are two words of 64 bits. The lowest node that strays is the last one found.
 
+#![tactic(auto)]
+
 ghost use Rattle.std.specs.Prelude.{◌≡◌, cond, ◌∷◌, ◌+◌, ◌<◌, length, set};
 ghost use Rattle.rules.specs.declared.Verdict.TheVariants.{Refused};
 ghost use Rattle.rules.specs.Image.{nodes_of};
@@ -21,6 +23,7 @@ struct Held {
     pub hi: u64,
 }
 
+#[tactic(auto, unfolding(checklaws::specs::Bits::bit))]
 fn has_bit(w: u64, x: usize) -> bool
     requires { x < 64 }
     ensures { result ≡ bit w x }
@@ -28,6 +31,7 @@ fn has_bit(w: u64, x: usize) -> bool
     (w >> x) % 2 == 1
 }
 
+#[tactic(auto, using(checklaws::proofs::BitLaws::bits))]
 fn with_bit(w: u64, x: usize) -> u64
     requires { x < 64 }
     ensures { Adds w x result }
@@ -38,6 +42,7 @@ fn with_bit(w: u64, x: usize) -> u64
     w + (1u64 << x)
 }
 
+#[tactic(auto, using(checklaws::proofs::BitLaws::bits))]
 fn seen(v: Held, x: usize) -> bool
     requires { x < 128 }
     ensures { (visible : Names) → Shows v.lo v.hi visible → result ≡ has x visible }
@@ -50,6 +55,7 @@ fn seen(v: Held, x: usize) -> bool
     has_bit(hi, x - 64)
 }
 
+#[tactic(auto, using(checklaws::proofs::BitLaws::bits))]
 fn also(v: Held, x: usize) -> Held
     requires { x < 128 }
     ensures { (visible : Names) → Shows v.lo v.hi visible → Shows result.lo result.hi (x ∷ visible) }
@@ -65,6 +71,7 @@ fn also(v: Held, x: usize) -> Held
 }
 
 // Does this word use a name that isn't visible?
+#[tactic(auto, unfolding(rules::proofs::StrayRows::stray_word))]
 fn stray(p: Role, w: usize, v: Held) -> bool
     requires { NameFits p w }
     ensures { (visible : Names) → Shows v.lo v.hi visible → result ≡ stray_word visible p w }
@@ -76,6 +83,7 @@ fn stray(p: Role, w: usize, v: Held) -> bool
 }
 
 // The visible names, with the one that this word declares.
+#[tactic(auto, unfolding(rules::proofs::StrayRows::grow_word))]
 fn grown(p: Role, w: usize, v: Held) -> Held
     requires { NameFits p w }
     ensures { (visible : Names) → Shows v.lo v.hi visible → Shows result.lo result.hi (grow_word visible p w) }
@@ -163,6 +171,7 @@ fn lowered(bad: bool, n: usize, v: Verdict) -> Verdict
     v
 }
 
+#[tactic(auto, using(checklaws::proofs::Formed::downward))]
 fn from_last(img: &[u8], lo: &mut [u64], hi: &mut [u64]) -> Verdict
     requires formed { Formed img.now }
     requires roomy { Roomy img.now lo.old hi.old }

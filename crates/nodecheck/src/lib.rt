@@ -1,5 +1,8 @@
 // Rules 5, 6 and 7 (document 01, "Refused scripts"), together at each node, node 0 upward: a tag, unused words that are
 // zero, and words that fit their role.
+
+#![tactic(auto)]
+
 mod rows;
 
 ghost use Rattle.std.specs.Prelude.{◌≡◌, ◌&&◌, ◌<◌};
@@ -14,6 +17,7 @@ use image::{Shape, Sort};
 use rules::{Kind, Node, Role, Row, Verdict};
 
 // 6: a word that the tag's row doesn't list is zero.
+#[tactic(auto, unfolding(rules::specs::Refusals::blank))]
 fn blank_word(p: Role, w: usize) -> bool
     ensures { result ≡ blank p w }
 {
@@ -23,6 +27,7 @@ fn blank_word(p: Role, w: usize) -> bool
     }
 }
 
+#[tactic(auto, using(checklaws::proofs::Three::threes))]
 fn blank_words(x: Node, r: Row) -> bool
     ensures { result ≡ (blank r.a x.a && blank r.b x.b && blank r.c x.c) }
 {
@@ -49,6 +54,7 @@ fn kind_index(k: Kind) -> u32
 }
 
 // Is it a kind, and this one?
+#[tactic(auto, using(checklaws::proofs::Words::same_kind_lem), unfolding(rules::specs::Refusals::is_kind))]
 pub fn is_kind(k: Kind, s: Sort) -> bool
     ensures { result ≡ is_kind k (kind_is s) }
 {
@@ -59,6 +65,7 @@ pub fn is_kind(k: Kind, s: Sort) -> bool
 }
 
 // Which of 6 and 7, where a node's words don't fit.
+#[tactic(auto, using(crate::proofs::Fitting::which))]
 fn words_reason(x: Node, r: Row) -> u32
     ensures { result ≡ misfit r x }
 {
@@ -69,6 +76,7 @@ fn words_reason(x: Node, r: Row) -> u32
 }
 
 // Mostly the words fit, so that is asked first; which rule is broken is asked only where one is.
+#[tactic(auto, using(namecheck::proofs::Shapes::shapes, crate::proofs::Fitting::reasons))]
 fn node_reason(img: &[u8], n: usize) -> u32
     requires sized { Sized img.now }
     requires n_bound { n < nodes_of img.now }
@@ -86,6 +94,7 @@ fn node_reason(img: &[u8], n: usize) -> u32
     }
 }
 
+#[tactic(auto, using(checklaws::proofs::Places::placing))]
 pub fn all_nodes(img: &[u8]) -> Verdict
     requires { Sized img.now }
     ensures { result ≡ rules_say img.now node_rules (nodes_of img.now) }

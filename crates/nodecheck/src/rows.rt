@@ -26,6 +26,7 @@ fn within(low: usize, high: usize, x: usize) -> bool
 }
 
 // Has a number the kind k as a tag? The range of the one kind is asked for, and not which kind it has.
+#[tactic(auto, using(crate::proofs::Fitting::kinds))]
 fn of_kind(k: Kind, tag: usize) -> bool
     ensures { result ≡ is_kind k (kind_of tag) }
 {
@@ -37,6 +38,7 @@ fn of_kind(k: Kind, tag: usize) -> bool
 }
 
 // A child is below its parent and of its kind.
+#[tactic(auto, unfolding(rules::specs::Refusals::suits))]
 fn child(img: &[u8], n: usize, k: Kind, w: usize) -> bool
     requires sized { Sized img.now }
     requires n_bound { n < nodes_of img.now }
@@ -208,6 +210,7 @@ fn one_cmd(img: &[u8], n: usize, x: Node) -> bool
 }
 
 // A number that is no tag has no row, and its words fit none.
+#[tactic(auto, using(crate::proofs::Fitting::no_row), unfolding(rules::specs::Image::row_of, rules::specs::Image::row_in, rules::specs::Image::line_of, rules::specs::Image::line_in, rules::specs::Image::tags))]
 pub fn fits(img: &[u8], n: usize, x: Node) -> bool
     requires sized { Sized img.now }
     requires n_bound { n < nodes_of img.now }

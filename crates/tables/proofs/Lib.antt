@@ -3,3 +3,4 @@ pub mod NodeLaws
 pub mod Tabling
 pub mod HeadLaws
 pub mod ReadTabled
+pub mod Cited

@@ -6,6 +6,7 @@ ghost use Rattle.rules.proofs.Table.{Small};
 
 use rules::Node;
 
+#[tactic(auto, unfolding(rules::specs::Published::bytes_of))]
 pub fn put_word(img: &mut [u8], at: usize, w: usize)
     requires { (at + 1 < length img.old) × (w < 65536) }
     ensures { img.new ≡ sets img.old at (bytes_of w) }
@@ -14,6 +15,7 @@ pub fn put_word(img: &mut [u8], at: usize, w: usize)
     img[at + 1] = (w / 256) as u8;
 }
 
+#[tactic(auto, using(crate::proofs::Cited::bytes_put_words_lemmas))]
 pub fn put_words(img: &mut [u8], at: usize, x: Node)
     requires at_in_bounds { at + 8 ≤ length img.old }
     requires small { Small x }

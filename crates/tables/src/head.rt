@@ -8,6 +8,7 @@ ghost use Rattle.tables.specs.Tabled.{head_bytes};
 use crate::bytes;
 
 // The five words of the contents: f codes, m nodes, n names.
+#[tactic(auto, using(crate::proofs::HeadLaws::contents))]
 fn put_contents(img: &mut [u8], f: usize, m: usize, n: usize)
     requires { (10 ≤ length img.old) × (f ≤ 16) × (m < 65536) × (n < 65536) }
     ensures { img.new ≡ sets img.old 0 (flatten (map bytes_of (10 ∷ f ∷ (10 + 2 * f) ∷ m ∷ n ∷ []))) }
@@ -19,6 +20,7 @@ fn put_contents(img: &mut [u8], f: usize, m: usize, n: usize)
     bytes::put_word(img, 8, n);
 }
 
+#[tactic(auto, using(crate::proofs::Cited::head_put_codes_lemmas))]
 fn put_codes(img: &mut [u8], codes: &[u16], f: usize)
     requires { (f ≤ length codes.now) × (10 + 2 * f ≤ length img.old) }
     ensures { img.new ≡ sets img.old 10 (flatten (map bytes_of (take f codes.now))) }
@@ -31,6 +33,7 @@ fn put_codes(img: &mut [u8], codes: &[u16], f: usize)
 }
 
 // The first f codes, m nodes, n names.
+#[tactic(auto, using(crate::proofs::Cited::head_put_head_lemmas))]
 pub fn put_head(img: &mut [u8], codes: &[u16], f: usize, m: usize, n: usize)
     requires { (f ≤ length codes.now) × (10 + 2 * f ≤ length img.old) × (f ≤ 16) × (m < 65536) × (n < 65536) }
     ensures { img.new ≡ sets img.old 0 (head_bytes (take f codes.now) m n) }

@@ -2,6 +2,9 @@
 // (order 1, "Nodes are written children first, left before right"; reading/specs/Links).
 //
 // `firsts` has the first node of every node's tree so far, and zeros behind them.
+
+#![tactic(auto)]
+
 pub mod bytes;
 pub mod head;
 pub mod nodes;

@@ -111,6 +111,7 @@ fn of_item(firsts: &[u16], m: usize, tag: usize, value: u32) -> Made
 }
 
 // Node m, of an item: its bytes behind the m nodes before it, and its first node.
+#[tactic(auto, using(crate::proofs::NodeLaws::puts, crate::proofs::Cited::nodes_put_node_lemmas))]
 pub fn put_node(img: &mut [u8], firsts: &mut [u16], start: usize, m: usize, tag: usize, value: u32)
     requires falling { Falling firsts.old }
     requires m_in_bounds { (m < length firsts.old) × (m < 65536) × (tag < 65536) × (start + 8 * m + 8 ≤ length img.old) }

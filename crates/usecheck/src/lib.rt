@@ -1,6 +1,8 @@
 // Rule 8 (document 01, "Refused scripts"): every node but the root is a child exactly once, and the root is a command.
 // The uses of every node are counted in one pass, in a local array with a number for each node.
 
+#![tactic(auto)]
+
 ghost use Rattle.std.specs.Prelude.{◌≡◌, ◌+◌, ◌<◌, get_or, set};
 ghost use Rattle.rules.specs.Image.{nodes_of};
 ghost use Rattle.rules.proofs.GoodFacts.{Sized};
@@ -21,6 +23,7 @@ fn add_one(t: &mut [u16], w: usize)
 }
 
 // Counts one word of a node: a child is used once more.
+#[tactic(auto, unfolding(rules::specs::Refusals::hit))]
 fn tick(t: &mut [u16], p: Role, w: usize)
     requires { Most 65534 t.old }
     ensures { Ticks p w t.old t.new }
@@ -45,6 +48,7 @@ fn tick_words(t: &mut [u16], x: Node, r: Row)
     tick(t, s, x.c);
 }
 
+#[tactic(auto, using(namecheck::proofs::Shapes::shapes, checklaws::proofs::Counting::counting))]
 fn count_node(img: &[u8], t: &mut [u16], n: usize)
     requires sized { Sized img.now }
     requires n_bound { n < nodes_of img.now }
@@ -60,6 +64,7 @@ fn count_node(img: &[u8], t: &mut [u16], n: usize)
     }
 }
 
+#[tactic(auto, using(checklaws::proofs::Counting::counting))]
 fn count(img: &[u8], t: &mut [u16])
     requires sized { Sized img.now }
     requires counts { Counts img.now 0 t.old }
@@ -73,6 +78,7 @@ fn count(img: &[u8], t: &mut [u16])
     }
 }
 
+#[tactic(auto, using(checklaws::proofs::Words::once))]
 fn use_reason(img: &[u8], t: &[u16], n: usize) -> u32
     requires sized { Sized img.now }
     requires n_bound { n < nodes_of img.now }
@@ -95,6 +101,7 @@ fn use_reason(img: &[u8], t: &[u16], n: usize) -> u32
     8
 }
 
+#[tactic(auto, using(checklaws::proofs::Places::placing))]
 fn lowest_use(img: &[u8], t: &[u16]) -> Verdict
     requires sized { Sized img.now }
     requires counts { Counts img.now (nodes_of img.now) t.now }
@@ -123,6 +130,7 @@ fn uses_in(img: &[u8], t: &mut [u16]) -> Verdict
 }
 
 // A short script has a short list: clearing the long one would take longer than all the rest of its check.
+#[tactic(auto, using(checklaws::proofs::Counting::counting))]
 pub fn all_uses(img: &[u8]) -> Verdict
     requires { Sized img.now }
     ensures { result ≡ rules_say img.now use_rules (nodes_of img.now) }

@@ -1,0 +1,4 @@
+-- The lemmas that functions name in their attributes, function by function.
+use Rattle.building.proofs.BuildLaws.{one-node}
+
+pub ruleset build_put_made_lemmas = (one-node)

@@ -1,0 +1,15 @@
+use Rattle.checklaws.specs.Pieces.{rules_say}
+use Rattle.checklaws.specs.Pieces.{node_rules}
+use Rattle.rules.specs.declared.Verdict.TheVariants.{Accepted}
+use Rattle.rules.specs.Image.{nodes_of}
+use mathlib.Core.Path.{◌≡◌}
+use Prim.Native.Nat.{◌-◌}
+use Prim.Native.Nat.{◌≤◌}
+use borrow.Author.Rules.{rules}
+use Rattle.nodecheck.proofs.all_nodes.Given as goal
+
+abbrev pub invariant-loop-n : goal.invariant-loop-n
+invariant-loop-n l = ((l.m ≡ nodes_of l.img) × (l.n ≤ l.m)) × (rules_say l.img node_rules l.n ≡ Accepted)
+
+abbrev pub decreases-loop-n : goal.decreases-loop-n
+decreases-loop-n l = l.m - l.n

@@ -1,0 +1,7 @@
+-- `tables::nodes::of_item` meets its contract. Assumes nothing.
+use borrow.Author.Rules.{rules}
+use Rattle.tables.proofs.NodeLaws.{no_row}
+use Rattle.tables.proofs.nodes.of_item.Goals as goal
+
+pub returns-in-NoTag : goal.returns-in-NoTag
+returns-in-NoTag c = search (rules, no_row)
