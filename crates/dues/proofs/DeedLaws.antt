@@ -2,13 +2,13 @@
 use Prim.Native.Nat.{ℕ, zero, suc, ◌+◌, ◌-◌, ◌<◌, ◌≤◌}
 use mathlib.Core.Path.{◌≡◌, refl}
 use mathlib.Core.Bool.{Bool, true, false, cond}
-use mathlib.Core.List.{List, [], ◌∷◌}
+use mathlib.Core.List.{[], ◌∷◌}
 use native.Mathlib.Omega.{arith}
 use lib.ListN.{take as first_of}
 use lib.Dec.{eqb, ltb}
 use borrow.Author.Tests.{lt-ltb, le-ltb, eq-eqb, ne_eqb}
 use Rattle.grammar.specs.Grammar.{negated}
-use Rattle.reading.specs.Items.{Item, put}
+use Rattle.reading.specs.Items.{put}
 use Rattle.reading.specs.Table.{Act, take, pass, refuse, plain, signed, after}
 use Rattle.dues.specs.Words.{WordAct, taken, passed, refused, in_words, with_items}
 

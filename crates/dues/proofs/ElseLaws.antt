@@ -1,7 +1,7 @@
 -- What a thing due does with a token of any other kind than its own: a shared row's, once its node is out. Assumes nothing.
 use Prim.Native.Nat.{ℕ}
 use mathlib.Core.Path.{◌≡◌, ◌∙◌}
-use mathlib.Core.List.{List, [], ◌∷◌, ◌++◌}
+use mathlib.Core.List.{[], ◌∷◌, ◌++◌}
 use borrow.Author.Tests.{ne_eqb}
 use Rattle.reading.specs.Items.{put}
 use Rattle.reading.specs.Table.{refuse, row_for, minuses, arguments, firsts, sides, does, operand, test_minus, name_first, first_dotted, first_minus}

@@ -14,7 +14,7 @@ use Rattle.dues.specs.declared.Dues.{Dues}
 use Rattle.dues.specs.declared.Deed.{Deed}
 use Rattle.dues.specs.declared.Deed.TheVariants.{Take, Refuse}
 use Rattle.dues.specs.Words.{deed_of}
-use Rattle.dues.specs.Stack.{Stacked, Standing, passing, PassesAll, passed_items, Reaches}
+use Rattle.dues.specs.Stack.{Stacked, Standing, passing, PassesAll, passed_items}
 use Rattle.dues.proofs.StackLaws.{Looked, asked, Learns, act-takes, act-refuses}
 
 -- what stands above is passed on the way down

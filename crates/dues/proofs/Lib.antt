@@ -7,3 +7,4 @@ pub mod StackLaws
 pub mod FinishLaws
 pub mod PileLaws
 pub mod KeepLaws
+pub mod Cited

@@ -1,15 +1,13 @@
 -- Things due that one kind of token alone takes, by their numbers. Assumes nothing.
-use Prim.Native.Nat.{ℕ, ◌+◌, ◌*◌, ◌<◌, ◌≤◌}
+use Prim.Native.Nat.{ℕ, ◌+◌, ◌*◌, ◌<◌}
 use mathlib.Core.Path.{◌≡◌, ◌∙◌}
-use mathlib.Core.Bool.{Bool, true, false, cond}
-use mathlib.Core.List.{List, [], ◌∷◌}
-use native.Mathlib.Omega.{arith}
+use mathlib.Core.Bool.{cond}
+use mathlib.Core.List.{[], ◌∷◌}
 use lib.Dec.{eqb}
 use Rattle.reading.specs.Items.{put}
-use Rattle.reading.specs.Table.{Due, command, var_semi, malloc_name, close_node, node, shut, expression, proc_colon, Act, take, row_for, does}
-use Rattle.dues.specs.declared.Made.{Made}
+use Rattle.reading.specs.Table.{command, var_semi, malloc_name, close_node, node, expression, proc_colon, take, row_for, does}
 use Rattle.dues.specs.declared.Deed.{Deed}
-use Rattle.dues.specs.Words.{WordAct, taken, passed, refused, due_word, made_items, deed_of, in_words, things, due_by, done_to}
+use Rattle.dues.specs.Words.{taken, refused, due_word, deed_of, things, due_by, done_to}
 use Rattle.dues.proofs.DeedLaws.{decided}
 
 module _ (k v n t x : ℕ) (r : Deed) where

@@ -1,11 +1,10 @@
 -- Words put on the stack one by one. Assumes nothing.
 use Prim.Native.Nat.{ℕ, zero, suc, ◌+◌, ◌<◌, ◌≤◌}
 use mathlib.Core.Path.{◌≡◌, refl, sym, ap, ◌∙◌}
-use mathlib.Core.List.{List, [], ◌∷◌, ◌++◌}
+use mathlib.Core.List.{List, [], ◌∷◌}
 use native.Mathlib.Omega.{arith}
 use native.Mathlib.Numerals.{add-one}
 use lib.ListN.{length, get_or, take, drop, set, length-set}
-use lib.Seq.{set_at}
 use Rattle.dues.specs.Stack.{stack_of, Piled}
 
 pub none-piled : (n : ℕ) (ws : List ℕ) → Piled [] n n ws ws

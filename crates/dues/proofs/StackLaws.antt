@@ -1,19 +1,18 @@
 -- The stack of what is due, looked through from its top: how far a token gets, and what takes it. Assumes nothing.
-use Prim.Native.Nat.{ℕ, zero, suc, ◌+◌, ◌-◌, ◌<◌, ◌≤◌}
-use mathlib.Core.Path.{◌≡◌, refl, sym, ap, subst, ◌∙◌}
-use mathlib.Core.List.{List, [], ◌∷◌, ◌++◌, map, append_assoc, append-nil}
+use Prim.Native.Nat.{ℕ, zero, suc, ◌-◌, ◌<◌, ◌≤◌}
+use mathlib.Core.Path.{◌≡◌, refl, sym, ap, ◌∙◌}
+use mathlib.Core.List.{List, [], ◌∷◌, ◌++◌, append_assoc}
 use native.Mathlib.Omega.{arith}
 use lib.ListN.{length, get_or}
 use Rattle.reading.specs.Items.{Item}
-use Rattle.reading.specs.Table.{Due, Act, take, pass, refuse, does, feed, went, stuck}
+use Rattle.reading.specs.Table.{Due, Act, take, pass, refuse, does, feed, went}
 use Rattle.dues.specs.declared.Made.{Made}
 use Rattle.dues.specs.declared.Dues.{Dues}
 use Rattle.dues.specs.declared.Deed.{Deed}
 use Rattle.dues.specs.declared.Deed.TheVariants.{Take, Pass, Refuse}
-use Rattle.dues.specs.declared.Taker.{Taker}
 use Rattle.dues.specs.declared.Taker.TheVariants.{At, Nowhere}
-use Rattle.dues.specs.Words.{WordAct, taken, passed, refused, due_word, deed_of, in_words}
-use Rattle.dues.specs.Stack.{DueFits, AllFit, IsDue, stack_of, Stacked, Standing, passing, PassesAll, passed_items, Reaches, TakenBy, TakerSays}
+use Rattle.dues.specs.Words.{taken, passed, refused, due_word, deed_of, in_words}
+use Rattle.dues.specs.Stack.{DueFits, IsDue, stack_of, Stacked, Standing, passing, PassesAll, passed_items, Reaches, TakenBy, TakerSays}
 use Rattle.dues.proofs.PassLaws.{passes-always, feed-above}
 
 -- ---- the top of a stack

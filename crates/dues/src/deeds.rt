@@ -154,6 +154,7 @@ pub fn named(k: u32, v: u32, a: u32) -> Deed
 }
 
 // an integer behind its sign: at most 2^31; of -0 the bits are 0
+#[tactic(auto, using(crate::proofs::Cited::deeds_negative_integer_lemmas))]
 pub fn negative_integer(v: u32) -> Deed
     ensures { deed_of result ≡ cond (ltb v 2147483649) (taken [] (put 2 (negated v) ∷ [])) refused }
 {

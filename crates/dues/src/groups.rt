@@ -9,6 +9,7 @@ use crate::{
 };
 
 // 1 to 7: commands and their beginnings
+#[tactic(auto, using(crate::proofs::Cited::groups_beginning_lemmas), unfolding(crate::specs::Words::due_by, crate::specs::Words::things, reading::specs::Table::does, reading::specs::Table::row_for, crate::specs::Words::due_word))]
 pub fn beginning(n: u32, x: u32, k: u32, v: u32) -> Deed
     requires name_fits { NameFits k v }
     requires le_n { (1 ≤ n) × (n ≤ 7) × (x < 128) }
@@ -26,6 +27,7 @@ pub fn beginning(n: u32, x: u32, k: u32, v: u32) -> Deed
 }
 
 // 8 to 13: what ends or joins
+#[tactic(auto, using(crate::proofs::DeedLaws::decided, crate::proofs::Cited::groups_ending_lemmas), unfolding(crate::specs::Words::due_by, crate::specs::Words::things, reading::specs::Table::does, reading::specs::Table::row_for, crate::specs::Words::due_word))]
 pub fn ending(n: u32, t: u32, x: u32, k: u32) -> Deed
     requires t_nonzero { (n ≡ 9 → 0 < t) × (n ≡ 12 → 0 < t) × (n ≡ 13 → 0 < t) }
     requires le_n { (8 ≤ n) × (n ≤ 13) }
@@ -42,6 +44,7 @@ pub fn ending(n: u32, t: u32, x: u32, k: u32) -> Deed
 }
 
 // 14 to 19: tests and operands
+#[tactic(auto, unfolding(crate::specs::Words::due_by, crate::specs::Words::things, reading::specs::Table::does, reading::specs::Table::row_for, crate::specs::Words::due_word))]
 pub fn testing(n: u32, x: u32, k: u32, v: u32) -> Deed
     requires { (14 ≤ n) × (n ≤ 19) × (x < 128) }
     ensures { (t : ℕ) → deed_of result ≡ done_to (due_by n t x) k v }
@@ -57,6 +60,7 @@ pub fn testing(n: u32, x: u32, k: u32, v: u32) -> Deed
 }
 
 // 20 to 25: a command that began with a selection, and the beginning of an expression
+#[tactic(auto, using(crate::proofs::DeedLaws::no_items, crate::proofs::Cited::groups_selecting_lemmas), unfolding(crate::specs::Words::due_by, crate::specs::Words::things, reading::specs::Table::does, reading::specs::Table::row_for, crate::specs::Words::due_word))]
 pub fn selecting(n: u32, k: u32, v: u32) -> Deed
     requires { (20 ≤ n) × (n ≤ 25) }
     ensures { (t x : ℕ) → deed_of result ≡ done_to (due_by n t x) k v }
@@ -72,6 +76,7 @@ pub fn selecting(n: u32, k: u32, v: u32) -> Deed
 }
 
 // 26 to 32: the rest of an expression, and a proc
+#[tactic(auto, using(crate::proofs::Cited::groups_going_on_lemmas), unfolding(crate::specs::Words::due_by, crate::specs::Words::things, reading::specs::Table::does, reading::specs::Table::row_for, crate::specs::Words::due_word))]
 pub fn going_on(n: u32, x: u32, k: u32, v: u32) -> Deed
     requires name_fits { NameFits k v }
     requires le_n { (26 ≤ n) × (n ≤ 32) × (x < 128) }

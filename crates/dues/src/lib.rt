@@ -1,5 +1,7 @@
 // The table by which a text is read (module Table of `reading`), and the stack of what is still due, in lent words. A thing due is one
 // word: its number, and above it its tag and its name (module Words). Zero is nothing.
+#![tactic(auto)]
+
 mod deeds;
 mod groups;
 mod rows;

@@ -19,6 +19,7 @@ fn opening(rest: Dues) -> Deed
 }
 
 // An operand, and then these.
+#[tactic(auto, using(crate::proofs::Cited::rows_operand_row_lemmas), unfolding(reading::specs::Table::row_for, reading::specs::Table::operands, crate::specs::Words::due_word))]
 pub fn operand_row(k: u32, v: u32, rest: Dues) -> Deed
     requires { rest.count ≤ 2 }
     ensures { (ds : List Due) → due_words rest ≡ map due_word ds → deed_of result ≡ in_words (row_for k v (operands ds) refuse) }
@@ -35,6 +36,7 @@ pub fn operand_row(k: u32, v: u32, rest: Dues) -> Deed
 }
 
 // A command begins, and no sign begins it.
+#[tactic(auto, using(crate::proofs::Cited::rows_command_row_lemmas), unfolding(reading::specs::Table::row_for, reading::specs::Table::commands, crate::specs::Words::due_word))]
 pub fn command_row(k: u32, v: u32) -> Deed
     requires { NameFits k v }
     ensures { deed_of result ≡ in_words (row_for k v commands refuse) }
@@ -57,6 +59,7 @@ pub fn command_row(k: u32, v: u32) -> Deed
 }
 
 // Behind a selection with which a command began: a dot, a minus of either kind, an argument. A node comes out first, where `made` is one.
+#[tactic(auto, unfolding(reading::specs::Table::row_for, reading::specs::Table::minuses, reading::specs::Table::arguments, reading::specs::Table::firsts, crate::specs::Words::due_word))]
 pub fn first_row(k: u32, made: Made) -> Deed
     ensures { (v : ℕ) → deed_of result ≡ with_items (made_items made) (in_words (row_for k v firsts refuse)) }
 {
@@ -70,6 +73,7 @@ pub fn first_row(k: u32, made: Made) -> Deed
 }
 
 // Behind the left side of a test: a minus of either kind, a comparison. A node comes out first, where `made` is one.
+#[tactic(auto, unfolding(reading::specs::Table::row_for, reading::specs::Table::minuses, reading::specs::Table::sides, crate::specs::Words::due_word))]
 pub fn side_row(k: u32, made: Made) -> Deed
     ensures { (v : ℕ) → deed_of result ≡ with_items (made_items made) (in_words (row_for k v sides refuse)) }
 {

@@ -11,6 +11,7 @@ use crate::{
     rows,
 };
 
+#[tactic(auto, unfolding(reading::specs::Table::row_for, reading::specs::Table::does, crate::specs::Words::due_word))]
 pub fn at_command(k: u32, v: u32) -> Deed
     requires { NameFits k v }
     ensures { deed_of result ≡ in_words (does command k v) }
@@ -21,6 +22,7 @@ pub fn at_command(k: u32, v: u32) -> Deed
     }
 }
 
+#[tactic(auto, unfolding(reading::specs::Table::row_for, reading::specs::Table::does, crate::specs::Words::due_word))]
 pub fn at_middle(k: u32) -> Deed
     ensures { (v : ℕ) → deed_of result ≡ in_words (does middle k v) }
 {
@@ -31,6 +33,7 @@ pub fn at_middle(k: u32) -> Deed
     }
 }
 
+#[tactic(auto, unfolding(reading::specs::Table::row_for, reading::specs::Table::does, crate::specs::Words::due_word))]
 pub fn at_test(k: u32, v: u32) -> Deed
     ensures { deed_of result ≡ in_words (does test k v) }
 {
@@ -41,6 +44,7 @@ pub fn at_test(k: u32, v: u32) -> Deed
     }
 }
 
+#[tactic(auto, using(crate::proofs::DeedLaws::no_items), unfolding(reading::specs::Table::row_for, reading::specs::Table::does, crate::specs::Words::due_word))]
 pub fn at_test_left(k: u32) -> Deed
     ensures { (v : ℕ) → deed_of result ≡ in_words (does test_left k v) }
 {
@@ -50,6 +54,7 @@ pub fn at_test_left(k: u32) -> Deed
     }
 }
 
+#[tactic(auto, using(crate::proofs::Cited::things_at_test_minus_lemmas), unfolding(reading::specs::Table::row_for, reading::specs::Table::does, crate::specs::Words::due_word))]
 pub fn at_test_minus(k: u32) -> Deed
     ensures { (v : ℕ) → deed_of result ≡ in_words (does test_minus k v) }
 {
@@ -60,6 +65,7 @@ pub fn at_test_minus(k: u32) -> Deed
 }
 
 // the digits behind a sign: at most 2^31, and of -0 the bits are 0
+#[tactic(auto, using(crate::proofs::Cited::things_at_negative_lemmas), unfolding(reading::specs::Table::row_for, reading::specs::Table::does, crate::specs::Words::due_word))]
 pub fn at_negative(k: u32, v: u32) -> Deed
     ensures { deed_of result ≡ in_words (does negative k v) }
 {
@@ -69,6 +75,7 @@ pub fn at_negative(k: u32, v: u32) -> Deed
     }
 }
 
+#[tactic(auto, using(crate::proofs::Cited::things_at_name_first_lemmas), unfolding(reading::specs::Table::row_for, reading::specs::Table::does, crate::specs::Words::due_word))]
 pub fn at_name_first(k: u32, x: u32) -> Deed
     requires { x < 128 }
     ensures { (v : ℕ) → deed_of result ≡ in_words (does (name_first x) k v) }
@@ -79,6 +86,7 @@ pub fn at_name_first(k: u32, x: u32) -> Deed
     }
 }
 
+#[tactic(auto, unfolding(reading::specs::Table::row_for, reading::specs::Table::does, crate::specs::Words::due_word))]
 pub fn at_first_dot(k: u32, v: u32) -> Deed
     ensures { deed_of result ≡ in_words (does first_dot k v) }
 {
@@ -88,6 +96,7 @@ pub fn at_first_dot(k: u32, v: u32) -> Deed
     }
 }
 
+#[tactic(auto, using(crate::proofs::Cited::things_at_first_dotted_lemmas), unfolding(reading::specs::Table::row_for, reading::specs::Table::does, crate::specs::Words::due_word))]
 pub fn at_first_dotted(k: u32) -> Deed
     ensures { (v : ℕ) → deed_of result ≡ in_words (does first_dotted k v) }
 {
@@ -97,6 +106,7 @@ pub fn at_first_dotted(k: u32) -> Deed
     }
 }
 
+#[tactic(auto, using(crate::proofs::Cited::things_at_first_minus_lemmas), unfolding(reading::specs::Table::row_for, reading::specs::Table::does, crate::specs::Words::due_word, reading::specs::Table::firsts))]
 pub fn at_first_minus(k: u32) -> Deed
     ensures { (v : ℕ) → deed_of result ≡ in_words (does first_minus k v) }
 {
@@ -106,6 +116,7 @@ pub fn at_first_minus(k: u32) -> Deed
     }
 }
 
+#[tactic(auto, unfolding(reading::specs::Table::row_for, reading::specs::Table::does, crate::specs::Words::due_word))]
 pub fn at_expression(k: u32, v: u32) -> Deed
     ensures { deed_of result ≡ in_words (does expression k v) }
 {
@@ -115,6 +126,7 @@ pub fn at_expression(k: u32, v: u32) -> Deed
     }
 }
 
+#[tactic(auto, unfolding(reading::specs::Table::row_for, reading::specs::Table::does, crate::specs::Words::due_word, reading::specs::Table::minuses))]
 pub fn at_sel(k: u32) -> Deed
     ensures { (v : ℕ) → deed_of result ≡ in_words (does sel k v) }
 {
@@ -126,6 +138,7 @@ pub fn at_sel(k: u32) -> Deed
     }
 }
 
+#[tactic(auto, unfolding(reading::specs::Table::row_for, reading::specs::Table::does, crate::specs::Words::due_word))]
 pub fn at_sel_dot(k: u32, v: u32) -> Deed
     ensures { deed_of result ≡ in_words (does sel_dot k v) }
 {
@@ -135,6 +148,7 @@ pub fn at_sel_dot(k: u32, v: u32) -> Deed
     }
 }
 
+#[tactic(auto, unfolding(reading::specs::Table::row_for, reading::specs::Table::does, crate::specs::Words::due_word))]
 pub fn at_after_minus(k: u32, v: u32) -> Deed
     ensures { deed_of result ≡ in_words (does after_minus k v) }
 {
@@ -144,6 +158,7 @@ pub fn at_after_minus(k: u32, v: u32) -> Deed
     }
 }
 
+#[tactic(auto, unfolding(reading::specs::Table::row_for, reading::specs::Table::does, crate::specs::Words::due_word, reading::specs::Table::minuses))]
 pub fn at_sel_minus(k: u32) -> Deed
     ensures { (v : ℕ) → deed_of result ≡ in_words (does sel_minus k v) }
 {
@@ -155,6 +170,7 @@ pub fn at_sel_minus(k: u32) -> Deed
     }
 }
 
+#[tactic(auto, unfolding(reading::specs::Table::row_for, reading::specs::Table::does, crate::specs::Words::due_word))]
 pub fn at_sel_minus_dot(k: u32, v: u32) -> Deed
     ensures { deed_of result ≡ in_words (does sel_minus_dot k v) }
 {

@@ -2,7 +2,6 @@
 use Prim.Native.Nat.{ℕ, zero, suc}
 use mathlib.Core.Path.{◌≡◌, refl, sym, ap, subst, ◌∙◌}
 use mathlib.Core.List.{List, ◌∷◌, map}
-use native.Mathlib.Omega.{arith}
 use lib.ListN.{get_or}
 use lib.Seq.{slice}
 use Rattle.laws.specs.UpTo.{up_to}

@@ -1,4 +1,6 @@
 // The list of fields of a written script: its rows, or the first bad one and what is wrong with it.
+#![tactic(auto)]
+
 pub mod names;
 pub mod parts;
 

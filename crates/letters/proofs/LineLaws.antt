@@ -1,6 +1,6 @@
 -- The line of a text's end, counted from place to place: a piece has no byte 10 in it, so what is counted behind it is what is counted from its front.
 -- Assumes nothing.
-use Prim.Native.Nat.{ℕ, zero, suc, ◌+◌, ◌<◌, ◌≤◌}
+use Prim.Native.Nat.{ℕ, suc, ◌+◌, ◌<◌, ◌≤◌}
 use mathlib.Core.Path.{◌≡◌, refl, sym, ap, ◌∙◌}
 use mathlib.Core.Bool.{Bool, true, false, cond, ◌&&◌, true≢false}
 use mathlib.Core.Option.{none, some}
@@ -13,10 +13,8 @@ use lib.Seq.{drop-cons}
 use Rattle.grammar.specs.Classes.{blank, symbol, blanks, among, class_of, is_letter, is_digit, in_word}
 use Rattle.grammar.specs.Tokens.{spelled, same_word, double}
 use Rattle.grammar.specs.Places.{every, present, paired, line_after, line_from}
-use Rattle.letters.specs.declared.cursor.Cursor.{Cursor}
 use Rattle.letters.specs.declared.places.Place.{Place}
 use Rattle.letters.specs.Kinds.{symbol_width}
-use Rattle.letters.specs.Past.{past}
 use Rattle.letters.specs.Pieces.{piece_end}
 use Rattle.letters.specs.Runs.{run}
 use Rattle.letters.specs.Says.{NextSays}

@@ -1,4 +1,6 @@
 // The bytes of a text, place by place: the class of a byte, the way past blanks, the next place.
+#![tactic(auto)]
+
 pub mod classes;
 pub mod cursor;
 pub mod kinds;

@@ -5,3 +5,4 @@ pub mod GapLaws
 pub mod MarkLaws
 pub mod SpellLaws
 pub mod Determined
+pub mod Cited

@@ -7,6 +7,7 @@ ghost use Rattle.pen.specs.Draws.{Gaps};
 use crate::Pen;
 
 // nothing stands behind these
+#[tactic(auto, using(crate::proofs::GapLaws::listed), unfolding(writing::specs::Spell::opening))]
 fn opens(j: u32) -> bool
     ensures { result ≡ among j opening }
 {
@@ -23,6 +24,7 @@ fn opens(j: u32) -> bool
 }
 
 // nor before these
+#[tactic(auto, using(crate::proofs::GapLaws::listed), unfolding(writing::specs::Spell::closing))]
 fn closes(k: u32) -> bool
     ensures { result ≡ among k closing }
 {
@@ -42,6 +44,7 @@ fn closes(k: u32) -> bool
 }
 
 // nor between these and a parenthesis
+#[tactic(auto, using(crate::proofs::GapLaws::listed), unfolding(writing::specs::Spell::called))]
 fn is_called(j: u32) -> bool
     ensures { result ≡ among j called }
 {
@@ -60,6 +63,7 @@ fn is_called(j: u32) -> bool
     j == 18
 }
 
+#[tactic(auto, using(crate::proofs::Cited::gaps_is_tight_lemmas))]
 fn is_tight(j: u32, k: u32) -> bool
     ensures { result ≡ tight j k }
 {
@@ -75,6 +79,7 @@ fn is_tight(j: u32, k: u32) -> bool
     false
 }
 
+#[tactic(auto, using(crate::proofs::Cited::gaps_put_gap_lemmas))]
 pub fn put_gap(out: &mut [u8], most: usize, p: Pen, k: u32) -> Pen
     ensures { Gaps most k out.old p out.new result }
 {

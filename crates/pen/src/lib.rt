@@ -1,5 +1,7 @@
 // A pen that writes tokens as bytes, with the gaps between them: where the next byte goes and the kind of the last token, by value. It writes at most
 // `most` bytes; those past the end of what is lent fall away, so that with nothing lent it counts.
+#![tactic(auto)]
+
 mod gaps;
 mod marks;
 pub mod tokens;
@@ -41,6 +43,7 @@ pub fn put(out: &mut [u8], most: usize, p: Pen, b: u8) -> Pen
 }
 
 // The bytes of s from index `from` up to `to`.
+#[tactic(auto, using(crate::proofs::RunLaws::run_none, crate::proofs::RunLaws::run_more, crate::proofs::Cited::put_run_lemmas))]
 pub fn put_run(out: &mut [u8], most: usize, p: Pen, s: &[u8], from: usize, to: usize) -> Pen
     requires { (from ≤ to) × (to ≤ length s.now) }
     ensures { Puts most (slice from to s.now) out.old p out.new result }
@@ -61,6 +64,7 @@ fn digit(n: u64) -> u8
     48 + n as u8
 }
 
+#[tactic(auto, using(crate::proofs::DecimalLaws::digits_more, crate::proofs::Cited::put_decimal_lemmas))]
 pub fn put_decimal(out: &mut [u8], most: usize, p: Pen, n: u64) -> Pen
     ensures { Puts most (decimal_of n) out.old p out.new result }
 {

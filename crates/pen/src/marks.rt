@@ -9,6 +9,7 @@ pub struct Word {
 }
 
 // A kind that is no mark has no bytes.
+#[tactic(auto, using(crate::proofs::MarkLaws::absent), unfolding(writing::specs::Spell::spelled_as, writing::specs::Spell::marks, grammar::specs::Tokens::reserved, grammar::specs::Tokens::single, grammar::specs::Tokens::double))]
 pub fn spelling(k: u32) -> Word
     ensures { Spelled k result }
 {

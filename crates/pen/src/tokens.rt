@@ -16,6 +16,7 @@ const NUMBER: u32 = 3;
 const LETTER: u8 = 65;
 
 // A token of a kind whose bytes stand in s, from index `from` up to `to`.
+#[tactic(auto, using(crate::proofs::Cited::tokens_put_token_lemmas))]
 pub fn put_token(
     out: &mut [u8],
     most: usize,
@@ -34,6 +35,7 @@ pub fn put_token(
 }
 
 // A reserved word or a symbol; nothing for 0.
+#[tactic(auto, using(crate::proofs::Cited::tokens_put_mark_lemmas))]
 pub fn put_mark(out: &mut [u8], most: usize, p: Pen, k: u32) -> Pen
     ensures { Marks most k out.old p out.new result }
 {
@@ -46,6 +48,7 @@ pub fn put_mark(out: &mut [u8], most: usize, p: Pen, k: u32) -> Pen
     put_token(out, most, p, k, &s, 0, n)
 }
 
+#[tactic(auto, using(crate::proofs::Cited::tokens_put_number_lemmas))]
 pub fn put_number(out: &mut [u8], most: usize, p: Pen, n: u64) -> Pen
     ensures { Token most 3 (decimal_of n) out.old p out.new result }
 {

@@ -5,7 +5,7 @@ use mathlib.Core.List.{List, [], ◌∷◌, ◌++◌}
 use native.Mathlib.Omega.{arith}
 use lib.ListN.{length, set, length-set}
 use lib.Seq.{slice}
-use Rattle.laws.specs.UpTo.{up_to, length-up_to}
+use Rattle.laws.specs.UpTo.{length-up_to}
 use Rattle.rules.specs.Image.{most_names}
 use Rattle.grammar.specs.Tokens.{Tok}
 use Rattle.grammar.specs.Places.{Piece, Spot, spot}
@@ -14,7 +14,7 @@ use Rattle.grammar.specs.Names.{noted}
 use Rattle.grammar.specs.Reads.{Wrong as WrongAt, bad-byte, bad-order, unknown-field, outside-32-bits, too-many-names}
 use Rattle.letters.specs.declared.places.Place.{Place}
 use Rattle.fieldlist.specs.declared.FieldRows.{FieldRows}
-use Rattle.fieldlist.specs.Answer.{Spans, words, entries_of}
+use Rattle.fieldlist.specs.Answer.{words, entries_of}
 use Rattle.dues.specs.declared.Dues.{Dues}
 use Rattle.dues.specs.declared.Made.{Made}
 use Rattle.dues.specs.Stack.{Standing}
@@ -25,7 +25,7 @@ use Rattle.reader.specs.declared.step.Step.{Step}
 use Rattle.building.specs.Built.{Passed, Roomy}
 use Rattle.letters.specs.Upto.{piece_at, Upto, one_more}
 use Rattle.judging.specs.Judged.{TakenAs, Judges, JudgeSays}
-use Rattle.reader.specs.Under.{Lasting, Under, TakeSays, Facing, Told}
+use Rattle.reader.specs.Under.{Under, TakeSays, Facing, Told}
 use Rattle.reader.proofs.NameLaws.{named_more, spans-more}
 use Rattle.reader.proofs.StepLaws.{taken-passed, taken-room, taken-tag, taken-under}
 

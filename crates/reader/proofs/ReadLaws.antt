@@ -9,8 +9,8 @@ use lib.Dec.{ltb}
 use borrow.Author.Tests.{lt-ltb, le-ltb, ltb-true, ltb-false}
 use Rattle.rules.specs.Published.{image}
 use Rattle.grammar.specs.Classes.{among}
-use Rattle.grammar.specs.FieldList.{Entry, code_of, Listed}
-use Rattle.grammar.specs.Reads.{RefusedText, at-a-place, early-end, too-many-nodes, bad-byte, bad-order, unknown-field, outside-32-bits, too-many-names, most_bytes, words_for, Lent, Refuses, short-output, short-work, bad-list, bad-text}
+use Rattle.grammar.specs.FieldList.{Entry, code_of}
+use Rattle.grammar.specs.Reads.{RefusedText, at-a-place, early-end, too-many-nodes, bad-byte, bad-order, unknown-field, outside-32-bits, too-many-names, most_bytes, words_for, Lent, short-output, short-work, bad-list, bad-text}
 use Rattle.reading.specs.Links.{nodes_in, link}
 use Rattle.fieldlist.specs.declared.FieldRows.{FieldRows}
 use Rattle.fieldlist.specs.Answer.{entries_of, RightRows, Answers}
@@ -21,7 +21,7 @@ use Rattle.reader.specs.declared.Reading.TheVariants.{Image, Refused}
 use Rattle.reader.specs.declared.text.Ending.{Ending}
 use Rattle.building.specs.Finish.{Out}
 use Rattle.reader.specs.Under.{Lasting}
-use Rattle.reader.specs.Says.{Stood, Finds, TextSays, cleared, Handed, Withheld, Listens, early, words_after, Accepts, Denies, ReadSays}
+use Rattle.reader.specs.Says.{Stood, Finds, TextSays, cleared, Handed, Withheld, Listens, early, words_after, Denies, ReadSays}
 use Rattle.reader.proofs.CodeLaws.{narrow-codes}
 
 -- ---- lengths

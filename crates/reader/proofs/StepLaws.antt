@@ -12,18 +12,18 @@ use borrow.Author.Tests.{eq-eqb}
 use lib.Seq.{drop-drop}
 use Rattle.grammar.specs.Reads.{words_for}
 use Rattle.reading.specs.Items.{Item, put}
-use Rattle.reading.specs.Table.{Due, take, pass, does, feed, went}
+use Rattle.reading.specs.Table.{Due, take, does, feed, went}
 use Rattle.dues.specs.declared.Dues.{Dues}
 use Rattle.dues.specs.declared.Made.{Made}
 use Rattle.dues.specs.Words.{due_word, due_words, made_items, NameFits}
-use Rattle.dues.specs.Stack.{DueFits, AllFit, stack_of, Stacked, PassesAll, passed_items, Piled}
-use Rattle.dues.proofs.StackLaws.{stack-left, stack-length, stack_top}
+use Rattle.dues.specs.Stack.{DueFits, AllFit, Stacked, PassesAll, passed_items, Piled}
+use Rattle.dues.proofs.StackLaws.{stack-left, stack-length}
 use Rattle.dues.proofs.PassLaws.{feed-above}
 use Rattle.dues.proofs.KeepLaws.{ActFits, ItemsFit, does-fit}
 use Rattle.rules.specs.Image.{most_names}
-use Rattle.grammar.specs.Places.{Piece, spot, variable, field_word, digits, marked, bad_byte, decimal, line_from, last_line}
+use Rattle.grammar.specs.Places.{Piece, spot, variable, field_word, digits, marked, bad_byte, decimal, line_from}
 use Rattle.grammar.specs.Tokens.{Tok, name, field_name, number, mark, kind_of, value_of}
-use Rattle.grammar.specs.FieldList.{Entry, word_of, position_of}
+use Rattle.grammar.specs.FieldList.{word_of, position_of}
 use Rattle.grammar.specs.Names.{noted, by_name, by_field, token_of}
 use Rattle.grammar.proofs.Numbering.{position-below}
 use Rattle.reading.specs.Progress.{Progress}
@@ -33,8 +33,7 @@ use Rattle.letters.specs.declared.places.Place.{Place}
 use Rattle.letters.specs.Says.{Found, piece_by}
 use Rattle.fieldlist.specs.declared.FieldRows.{FieldRows}
 use Rattle.fieldlist.specs.Answer.{Spans, words, entries_of}
-use Rattle.building.specs.Built.{Built, Adds, Passed, Roomy}
-use Rattle.judging.specs.Worth.{Valid}
+use Rattle.building.specs.Built.{Passed}
 use Rattle.letters.specs.Upto.{piece_at, Upto}
 use Rattle.judging.specs.Judged.{TakenAs}
 use Rattle.reader.specs.declared.step.Kept.{Kept}

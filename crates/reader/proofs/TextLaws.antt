@@ -1,35 +1,33 @@
 -- The loop over the places: how it begins, what a place that is wrong tells, and what the end of the text does. Assumes nothing.
-use Prim.Native.Nat.{ℕ, zero, suc, ◌+◌, ◌*◌, ◌<◌, ◌≤◌}
+use Prim.Native.Nat.{ℕ, zero, suc, ◌≤◌}
 use mathlib.Core.Path.{◌≡◌, refl, sym, ap, subst, ◌∙◌}
 use mathlib.Core.Logic.{⊎_elim}
-use mathlib.Core.List.{List, [], ◌∷◌, map}
+use mathlib.Core.List.{List, [], map}
 use native.Mathlib.Omega.{arith}
-use lib.ListN.{length, get_or, drop, replicate, length-replicate, length-map}
+use lib.ListN.{length, get_or, replicate, length-replicate}
 use Rattle.laws.specs.UpTo.{up_to, length-up_to}
 use Rattle.rules.specs.Image.{most_fields, most_nodes, most_names}
 use Rattle.rules.specs.Published.{image}
-use Rattle.grammar.specs.Places.{line_from, last_line}
-use Rattle.grammar.specs.FieldList.{Entry, code_of}
+use Rattle.grammar.specs.Places.{last_line}
+use Rattle.grammar.specs.FieldList.{code_of}
 use Rattle.grammar.specs.Reads.{ReadsText, Wrong, RefusedText, words_for, most_bytes}
-use Rattle.reading.specs.Items.{Item}
 use Rattle.reading.specs.Links.{nodes_in, link}
-use Rattle.reading.specs.Table.{command, start as at_first}
+use Rattle.reading.specs.Table.{start as at_first}
 use Rattle.reading.proofs.Steps.{begins, refused-here}
 use Rattle.reading.proofs.Ends.{end-refused-on, ends-linked, ends-many}
 use Rattle.letters.specs.declared.places.Place.{Place}
 use Rattle.letters.specs.Says.{NextSays}
 use Rattle.letters.proofs.LineLaws.{next-lines}
 use Rattle.fieldlist.specs.declared.FieldRows.{FieldRows}
-use Rattle.fieldlist.specs.Answer.{Spans, words, entries_of, RightRows}
+use Rattle.fieldlist.specs.Answer.{words, entries_of, RightRows}
 use Rattle.dues.specs.Words.{due_word}
-use Rattle.dues.specs.Stack.{stack_of, Stacked, Standing}
+use Rattle.dues.specs.Stack.{stack_of, Standing}
 use Rattle.tables.proofs.NodeLaws.{falling-none}
 use Rattle.tables.proofs.Tabling.{tabled-none}
 use Rattle.building.specs.declared.finish.Whole.{Whole}
 use Rattle.reader.specs.declared.step.Step.{Step}
 use Rattle.reader.specs.declared.text.Ending.{Ending}
 use Rattle.letters.specs.Upto.{piece_at, none_yet}
-use Rattle.building.specs.Built.{Roomy, Built}
 use Rattle.building.specs.Finish.{EndSaysAll, Ends}
 use Rattle.reader.specs.Under.{Under, Facing, Faces, Told, StepSays}
 use Rattle.reader.specs.Says.{Stood, Finds, TextSays}

@@ -1,6 +1,6 @@
 -- What the reader answers: the image's bytes and no other, or the number and the line of a refusal, which leaves every byte of the output; and what the lent words
 -- hold afterwards. Assumes nothing.
-use Rattle.std.specs.Prelude.{ℕ, zero, suc, ◌+◌, ◌*◌, ◌<◌, ◌≤◌, ◌≡◌, cond, List, [], ◌∷◌, ◌++◌, map, length, drop, replicate}
+use Rattle.std.specs.Prelude.{ℕ, zero, suc, ◌<◌, ◌≤◌, ◌≡◌, cond, List, [], ◌∷◌, ◌++◌, map, length, drop, replicate}
 use Rattle.rules.specs.Image.{most_nodes, most_names}
 use Rattle.rules.specs.Published.{image}
 use Rattle.grammar.specs.Classes.{among}

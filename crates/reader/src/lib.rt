@@ -1,6 +1,8 @@
 // The reader of written scripts (order 1): from a text and a list of fields to the image, or the number and the line of the first mistake. It asks
 // nothing of its caller. The stack of what is still due stands in lent words, three for each byte of the text and four, so that no text is too deep;
 // the image is made in a buffer of its own and goes out whole or not at all.
+#![tactic(auto)]
+
 mod step;
 mod text;
 pub mod why;

@@ -11,3 +11,4 @@ pub mod Determined
 pub mod ReadBack
 pub mod Cases
 pub mod Visible
+pub mod Cited

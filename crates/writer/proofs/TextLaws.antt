@@ -9,7 +9,7 @@ use lib.Seq.{sets, sets-eq}
 use Rattle.rules.specs.Image.{nodes_of, node_at, tree_at, cmd_at}
 use Rattle.rules.specs.Script.{root_of}
 use Rattle.rules.proofs.GoodFacts.{Good}
-use Rattle.pen.specs.Behind.{behind}
+use Rattle.pen.specs.Behind.{behind, last_kind}
 use Rattle.pen.specs.Draws.{Drawn}
 use Rattle.pen.specs.declared.Pen.{Pen}
 use Rattle.pen.specs.declared.Pen.TheVariants.{At, Over}
@@ -64,12 +64,12 @@ module _ (img list from to : List ℕ) (g : Good img) (m : ℕ) (i : m ≡ nodes
 
   pub count-says : (most : ℕ) → WritesNode img list from to most (m - 1) false d (At 0 0) e p → Counted most (text_of img (fields_for img list from to)) p
   count-says most w =
-      record { says = drawn-counts most (text_of img (fields_for img list from to)) d e _ tokens_from p from_nothing w.says.says }
+      record { says = drawn-counts most (text_of img (fields_for img list from to)) d e (λ j. last_kind j (write_tree (tree_at (node_at img) (m - 1)) false)) tokens_from p from_nothing w.says.says }
 
   pub text_says : (n : ℕ) → WritesNode img list from to (length d) (m - 1) false d (At 0 0) e p → length (text_of img (fields_for img list from to)) ≤ length d
       → n ≡ at_of p → Spelling img (fields_for img list from to) d (Bytes n) e
   text_says n w h a =
-      record { says = drawn-said (text_of img (fields_for img list from to)) d e _ tokens_from p n from_nothing w.says.says h a }
+      record { says = drawn-said (text_of img (fields_for img list from to)) d e (λ j. last_kind j (write_tree (tree_at (node_at img) (m - 1)) false)) tokens_from p n from_nothing w.says.says h a }
 
 -- ---- by what was counted
 

@@ -118,6 +118,7 @@ fn pair(img: &[u8], ends: &[u8], left: How, right: How, a: usize, b: usize) -> u
     join(p, ends[a], q, ends[b])
 }
 
+#[tactic(auto, using(crate::proofs::Cited::ends_node_end_lemmas))]
 fn node_end(img: &[u8], ends: &[u8], n: usize) -> u8
     requires good { Good img.now }
     requires n_bound { n < nodes_of img.now }

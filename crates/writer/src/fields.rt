@@ -9,6 +9,7 @@ use crate::spelling::spell_out;
 use letters::classes::class_table;
 
 // Are these the image's codes?
+#[tactic(auto, using(crate::proofs::CodeLaws::codes_same, crate::proofs::Cited::fields_same_codes_lemmas))]
 fn same_codes(img: &[u8], codes: &[usize; 16], count: usize) -> bool
     requires sized { Sized img.now }
     requires count_le_most_fields { count ≤ most_fields }
@@ -28,6 +29,7 @@ fn same_codes(img: &[u8], codes: &[usize; 16], count: usize) -> bool
 }
 
 // No list: a0, a1, .. up to the most that there can be.
+#[tactic(auto, using(crate::proofs::Cited::fields_write_made_up_lemmas))]
 fn write_made_up(img: &[u8], list: &[u8], out: &mut [u8]) -> Text
     requires good { Good img.now }
     requires list_value { list.now ≡ [] }
@@ -44,6 +46,7 @@ fn write_made_up(img: &[u8], list: &[u8], out: &mut [u8]) -> Text
     )
 }
 
+#[tactic(auto, using(crate::proofs::AnswerLaws::rows_few, crate::proofs::Cited::fields_write_listed_lemmas))]
 pub fn write_listed(img: &[u8], list: &[u8], out: &mut [u8]) -> Text
     requires { Good img.now }
     ensures { FieldsSay img.now list.now out.old result out.new }

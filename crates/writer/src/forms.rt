@@ -63,6 +63,7 @@ fn shape(
 }
 
 // An integer has no form: it is one token or two, by its value.
+#[tactic(auto, using(crate::proofs::FormLaws::absent), unfolding(crate::specs::Forms::form_of, crate::specs::Forms::form_in, crate::specs::Forms::forms))]
 pub fn form_of(tag: usize) -> Form
     ensures { result ≡ form_of tag }
 {

@@ -3,6 +3,8 @@
 //
 // A number of the answer: 30 the image breaks one of the rules 1 to 8, 31 the list is no list of fields, 32 its codes aren't the image's, 33 the text is
 // longer than what is lent.
+#![tactic(auto)]
+
 mod ends;
 mod fields;
 mod forms;
@@ -24,6 +26,7 @@ pub enum Text {
 const EVERY: u64 = 18446744073709551615;
 
 // The image's tree as text, in the first bytes of `out`; a refusal leaves `out` as it is.
+#[tactic(auto, using(crate::proofs::AnswerLaws::checked, crate::proofs::Cited::write_lemmas))]
 pub fn write(img: &[u8], list: &[u8], out: &mut [u8]) -> Text
     ensures { Answers img.now list.now out.old result out.new }
 {

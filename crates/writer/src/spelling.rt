@@ -23,6 +23,7 @@ fn place(p: Pen) -> usize
 }
 
 // How long the text is, if it has at most `most` bytes.
+#[tactic(auto, using(crate::proofs::Cited::spelling_count_text_lemmas))]
 fn count_text(
     img: &[u8],
     ends: &[u8],
@@ -51,6 +52,7 @@ fn count_text(
     )
 }
 
+#[tactic(auto, using(crate::proofs::TextLaws::text_says, crate::proofs::Cited::spelling_put_text_lemmas))]
 fn put_text(
     img: &[u8],
     ends: &[u8],

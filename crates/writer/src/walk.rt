@@ -27,6 +27,7 @@ const OPENED: u32 = 17;
 const CLOSED: u32 = 18;
 
 // An integer from its halves: below 2^31 a number, from there on a sign and a number.
+#[tactic(auto, using(crate::proofs::Cited::walk_put_int_lemmas), unfolding(rules::specs::Image::halves))]
 fn put_int(out: &mut [u8], most: usize, p: Pen, low: usize, high: usize) -> Pen
     requires { (low < 65536) × (high < 65536) }
     ensures { WritesInt most (halves low high) out.old p out.new result }
@@ -40,6 +41,7 @@ fn put_int(out: &mut [u8], most: usize, p: Pen, low: usize, high: usize) -> Pen
 }
 
 // A field by its index from 1, with the word that the list has for it.
+#[tactic(auto, using(crate::proofs::Cited::walk_put_field_lemmas))]
 fn put_field(
     out: &mut [u8],
     most: usize,
@@ -58,6 +60,7 @@ fn put_field(
 }
 
 // Does this test end with an operand?
+#[tactic(auto, using(crate::proofs::TestLaws::tests))]
 fn compares(img: &[u8], t: usize) -> bool
     requires good { Good img.now }
     requires t_bound { (t < nodes_of img.now) × (kind_of (node_at img.now t).tag ≡ some a_test) }
@@ -72,6 +75,7 @@ fn compares(img: &[u8], t: usize) -> bool
 }
 
 // Does an operand stand before word b?
+#[tactic(auto, using(crate::proofs::TestLaws::tests))]
 fn test_before(img: &[u8], n: usize, x: Node) -> bool
     requires good { Good img.now }
     requires n_bound { (n < nodes_of img.now) × NodeRead img.now n x }
@@ -88,6 +92,7 @@ fn test_before(img: &[u8], n: usize, x: Node) -> bool
 }
 
 // Only what stands behind a test is told what stands before it.
+#[tactic(auto, using(crate::proofs::TestLaws::tests))]
 fn passes(how: How, front: bool) -> bool
     ensures { result ≡ passed how front }
 {

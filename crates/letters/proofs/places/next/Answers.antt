@@ -1,0 +1,13 @@
+-- `letters::places::next` meets its contract. Assumes nothing.
+use Rattle.letters.proofs.NextLaws.{no-blank-there, says-end, says-found}
+use Rattle.std.proofs.Common.{rules}
+use Rattle.letters.proofs.places.next.Goals as goal
+
+pub piece_at-requires-clause-at_in_bounds : goal.piece_at-requires-clause-at_in_bounds
+piece_at-requires-clause-at_in_bounds c = search (rules, no-blank-there, says-found, says-end)
+
+pub returns-then-from-text : goal.returns-then-from-text
+returns-then-from-text c = search (rules, no-blank-there, says-found, says-end)
+
+pub returns : goal.returns
+returns c = search (rules, no-blank-there, says-found, says-end)
