@@ -1,6 +1,8 @@
 // The interpreter for programs in C and Rust: the public functions behind a C interface, with their answers as numbers
 // (include/flagcopper.h); in written.rt the reader of written scripts. Wrappers only. Nothing is asked of the caller but that a
 // pointer and its length are memory of the caller's; each answer, and every word of what is lent, is the definitions'.
+#![tactic(auto)]
+
 mod images;
 mod written;
 

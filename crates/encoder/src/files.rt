@@ -6,7 +6,9 @@ ghost use Rattle.encoder.specs.Encodes.{lent_bytes};
 ghost use Rattle.encoder.specs.Says.{most_printed, Fits};
 
 use crate::answer::{Answered, answer};
-use filing::{is_read, make_file, print_lines};
+use filing::{is_read, make_file, open_read, print_lines, read_full};
+use std::io::Read;
+use std::rt::Files;
 
 // Room for the longest text and one byte more.
 fn text_room() -> [u8; 262145]
@@ -35,15 +37,21 @@ fn page() -> [u8; 4608]
     [0; 4608]
 }
 
-fn answer_files(text: i32, list: i32, name: &[u8], img: &mut [u8], out: &mut [u8]) -> Answered
+fn answer_files<F: Read>(
+    text: &mut Option<F>,
+    list: &mut Option<F>,
+    name: &[u8],
+    img: &mut [u8],
+    out: &mut [u8],
+) -> Answered
     requires name_len_bound { length name.now ≤ most_name }
     requires lent_bytes_in_bounds { (lent_bytes ≤ length img.old) × (most_printed ≤ length out.old) }
     ensures { Fits result img.new out.new }
 {
     let mut bytes = text_room();
-    let n = io::read_full(text, &mut bytes);
+    let n = read_full(text, &mut bytes);
     let mut rows = list_room();
-    let m = io::read_full(list, &mut rows);
+    let m = read_full(list, &mut rows);
     answer(
         is_read(text, n, 262145),
         is_read(list, m, 4097),
@@ -56,63 +64,67 @@ fn answer_files(text: i32, list: i32, name: &[u8], img: &mut [u8], out: &mut [u8
 }
 
 // Both files are opened before either is read.
-fn answer_paths(text: &[u8], list: &[u8], name: &[u8], img: &mut [u8], out: &mut [u8]) -> Answered
+fn answer_paths<R: Files>(
+    rt: &R,
+    text: &[u8],
+    list: &[u8],
+    name: &[u8],
+    img: &mut [u8],
+    out: &mut [u8],
+) -> Answered
     requires name_len_bound { length name.now ≤ most_name }
     requires lent_bytes_in_bounds { (lent_bytes ≤ length img.old) × (most_printed ≤ length out.old) }
     ensures { Fits result img.new out.new }
 {
-    let t = os::open_read(text);
-    let l = os::open_read(list);
-    let a = answer_files(t, l, name, img, out);
-    libc::close(t);
-    libc::close(l);
-    a
+    let mut t = open_read(rt, text);
+    let mut l = open_read(rt, list);
+    answer_files(&mut t, &mut l, name, img, out)
 }
 
 // What the program `encode` does with the names that it is given. The lines are printed only after the image stands under its name.
-pub fn encode_paths(text: &[u8], list: &[u8], image: &[u8])
+pub fn encode_paths<R: Files + Print + Eprint>(rt: &R, text: &[u8], list: &[u8], image: &[u8])
     requires { length image.now ≤ most_name }
 {
     let mut img = image_room();
     let mut out = page();
-    let a = answer_paths(text, list, image, &mut img, &mut out);
+    let a = answer_paths(rt, text, list, image, &mut img, &mut out);
     let bytes = a.image;
     let lines = a.printed;
     if bytes > 0 {
-        if !make_file(image, &img[..bytes]) {
+        if !make_file(rt, image, &img[..bytes]) {
             return;
         }
     }
-    print_lines(&out[..lines]);
+    print_lines(rt, &out[..lines]);
 }
 
-fn print_byte(b: u8) {
-    io::print_hex(1, b as u64, 2);
+fn print_byte<R: Print>(rt: &R, b: u8) {
+    let _ = print!(rt; "{b:02x}");
 }
 
-fn print_bytes(bytes: &[u8]) {
+fn print_bytes<R: Print>(rt: &R, bytes: &[u8]) {
     let mut i: usize = 0;
     while i < bytes.len() {
-        print_byte(bytes[i]);
+        print_byte(rt, bytes[i]);
         i += 1;
     }
-    io::write_all(1, b"\n");
+    let _ = Print::write_all(rt, b"\n");
 }
 
 // What the program `encoded` does: the same lines, and the image as a line of hexadecimal digits; no file is written.
-pub fn show_paths(text: &[u8], list: &[u8]) {
+pub fn show_paths<R: Files + Print + Eprint>(rt: &R, text: &[u8], list: &[u8]) {
     let mut img = image_room();
     let mut out = page();
-    let a = answer_paths(text, list, b"script.img", &mut img, &mut out);
+    let a = answer_paths(rt, text, list, b"script.img", &mut img, &mut out);
     let bytes = a.image;
     let lines = a.printed;
-    print_lines(&out[..lines]);
+    print_lines(rt, &out[..lines]);
     if bytes > 0 {
-        print_bytes(&img[..bytes]);
+        print_bytes(rt, &img[..bytes]);
     }
 }
 
 // What it does with any other number of names.
-pub fn print_usage() {
-    print_lines(b"usage: encode [TEXT FIELDS IMAGE]\n");
+pub fn print_usage<R: Print + Eprint>(rt: &R) {
+    print_lines(rt, b"usage: encode [TEXT FIELDS IMAGE]\n");
 }

@@ -1,13 +1,16 @@
 // The listing of two files: document 01, "Listing". The whole text is made in one buffer, byte for byte what the
 // definition says, and written at once. The buffer holds the longest listing: the header, 4,096 rows, the end, 1,024
 // cells and 4,096 fields, a line of at most 128 bytes each; so nothing is ever cut.
+#![tactic(auto)]
+
 ghost use Rattle.std.specs.Prelude.{◌≡◌, ◌≤◌, length};
 ghost use Rattle.listed.specs.Listing.{listing as listing_of, printed};
 ghost use Rattle.text.specs.Written.{Line};
 ghost use Rattle.filing.specs.Given.{given};
 
-use filing::print_lines;
+use filing::{open_read, print_lines, read_full};
 use rules::{Answer, SIZE};
+use std::rt::Files;
 
 const MOST_CHOICES: usize = 4096;
 
@@ -59,27 +62,29 @@ fn page() -> [u8; 1179904]
 
 // An image has at most 10 + 32 + 16,384 bytes: one byte more is enough to refuse a longer file for its length, and one
 // byte more than 4,096 to see too many choices (proofs/Cut).
-fn list_files(script: i32, choices: i32) {
+fn list_files<R: Files + Print + Eprint>(
+    rt: &R,
+    mut script: Option<R::File>,
+    mut choices: Option<R::File>,
+) {
     let mut bytes = [0u8; 16427];
-    let n = io::read_full(script, &mut bytes);
+    let n = read_full(&mut script, &mut bytes);
     let mut picks = [0u8; 4097];
-    let m = io::read_full(choices, &mut picks);
+    let m = read_full(&mut choices, &mut picks);
     let mut out = page();
     let k = answer(
-        script >= 0,
-        choices >= 0,
+        script.is_some(),
+        choices.is_some(),
         &bytes[..n],
         &picks[..m],
         &mut out,
     );
-    print_lines(&out[..k]);
+    print_lines(rt, &out[..k]);
 }
 
 // The listing of the files at these paths, to standard output. Both are opened before either is read.
-pub fn list_paths(script: &[u8], choices: &[u8]) {
-    let s = os::open_read(script);
-    let c = os::open_read(choices);
-    list_files(s, c);
-    libc::close(s);
-    libc::close(c);
+pub fn list_paths<R: Files + Print + Eprint>(rt: &R, script: &[u8], choices: &[u8]) {
+    let s = open_read(rt, script);
+    let c = open_read(rt, choices);
+    list_files(rt, s, c);
 }

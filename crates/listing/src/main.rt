@@ -1,4 +1,6 @@
 // The listing program of document 01: reads `script.img` and `choices.bin` here and prints the listing of their run.
-fn main() {
-    lister::list_paths(b"script.img", b"choices.bin");
+#![tactic(auto)]
+
+fn main(rt: HostRuntime) {
+    lister::list_paths(&rt, b"script.img", b"choices.bin");
 }

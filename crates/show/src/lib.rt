@@ -2,6 +2,8 @@
 // cells and the objects from the words of the workspace, each line after the one before in a lent buffer.
 // Nothing is asked of words, rows or script but their lengths: what a word means is decided for every word, and the
 // limits bound the way.
+#![tactic(auto)]
+
 mod entries;
 mod parts;
 

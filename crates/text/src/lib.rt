@@ -1,5 +1,7 @@
 // Pieces of a line: bytes as they are, and numbers in decimal. Each writes from index `at` on and answers the index past
 // what it wrote. A number has at most 20 digits, and asks for that much room.
+#![tactic(auto)]
+
 ghost use Rattle.std.specs.Prelude.{◌≡◌, ◌+◌, ◌≤◌, ◌<◌, length, get_or};
 ghost use Rattle.std.specs.Int.{w32};
 ghost use Rattle.std.proofs.Common.{to_z};

@@ -1,26 +1,31 @@
 // The vectors of docs/VECTORS.md: for each two arguments, an image and its choices, the name of the image and the
 // listing that the listing program prints for the two files.
-fn print_name(path: &[u8]) {
-    io::write_all(1, path);
-    io::write_all(1, b"\n");
+#![tactic(auto)]
+
+use filing::{argument, argument_count};
+use std::rt::{Env, Files};
+
+fn print_name<R: Print>(rt: &R, path: &[u8]) {
+    let _ = rt.write_all(path);
+    let _ = rt.write_all(b"\n");
 }
 
 // The arguments at these two places.
-fn vector(first: usize, second: usize) {
-    let mut script = io::buffer();
-    let n = os::arg(first, &mut script);
-    let mut choices = io::buffer();
-    let m = os::arg(second, &mut choices);
-    print_name(&script[..n]);
-    lister::list_paths(&script[..n], &choices[..m]);
+fn vector<R: Env + Files + Print + Eprint>(rt: &R, first: usize, second: usize) {
+    let mut script = [0u8; 4096];
+    let n = argument(rt, first, &mut script);
+    let mut choices = [0u8; 4096];
+    let m = argument(rt, second, &mut choices);
+    print_name(rt, &script[..n]);
+    lister::list_paths(rt, &script[..n], &choices[..m]);
 }
 
-fn main() {
+fn main(rt: HostRuntime) {
     // argument 0 is the program's own name
-    let count = os::arg_count() / 2;
+    let count = argument_count(&rt) / 2;
     let mut k: usize = 0;
     while k < count {
-        vector(2 * k + 1, 2 * k + 2);
+        vector(&rt, 2 * k + 1, 2 * k + 2);
         k += 1;
     }
 }
