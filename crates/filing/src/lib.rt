@@ -1,6 +1,6 @@
-// What the programs share that are told the names of files, read files and make one. A file is made under a name of its own and takes its place whole, or nothing is changed. What
-// is read and what is written can't be stated with the toolchain's libraries (docs/DECISIONS.md 5.5): only of the name is there a contract, the rest is
-// run and compared.
+// What the programs share: their arguments, files that are read, and one that is made, under a name of its own, which takes its place whole, or
+// nothing is changed; lines printed, and complaints. What is read and what is written can't be stated with the library (docs/DECISIONS.md 5.5): of
+// the name under which a file is made there is a contract, of what is read a bound, the rest is run and compared.
 #![tactic(auto)]
 
 ghost use Rattle.std.specs.Prelude.{◌≤◌, length};
@@ -19,7 +19,7 @@ use text::put_text;
 // Room for a name of 4,096 bytes with `.part` behind it.
 const MOST_PART_NAME: usize = 4101;
 
-// The file of this name, open to be read. One that can't be opened is none; so is one whose name isn't UTF-8, which the library takes for no path.
+// The file of this name, open to be read. One that can't be opened is none; so is one whose name isn't UTF-8, since the library takes text for a path.
 pub fn open_read<R: Files>(rt: &R, name: &[u8]) -> Option<R::File> {
     match from_utf8(name) {
         Ok(path) => fs::open(rt, path).ok(),
@@ -27,6 +27,7 @@ pub fn open_read<R: Files>(rt: &R, name: &[u8]) -> Option<R::File> {
     }
 }
 
+// The same as `read_full`, of a file that is there.
 fn read_into<F: Read>(file: &mut F, buf: &mut [u8]) -> usize
     ensures { IsPrefixLen result buf.new }
 {
@@ -51,6 +52,7 @@ pub fn read_full<F: Read>(file: &mut Option<F>, buf: &mut [u8]) -> usize
     }
 }
 
+// Whether nothing stands behind what was read; where the read fails, that isn't known.
 fn is_at_end<F: Read>(file: &mut F) -> bool {
     let mut byte = [0u8; 1];
     match file.read(&mut byte) {
@@ -127,11 +129,12 @@ fn part_name(part: &mut [u8], name: &[u8]) -> usize
     put_text(part, a, b".part")
 }
 
+// The names are text here, as the library asks.
 fn make_at<R: Files + Eprint>(rt: &R, part: &[u8], name: &[u8], bytes: &[u8]) -> bool {
     match (from_utf8(part), from_utf8(name)) {
-        (Ok(part), Ok(name)) => write_part(rt, part, bytes) && take_name(rt, part, name),
+        (Ok(p), Ok(n)) => write_part(rt, p, bytes) && take_name(rt, p, n),
         _ => {
-            let _ = eprintln!(rt; "a name that is not UTF-8");
+            let _ = eprintln!(rt; "{}: a name that is not UTF-8", name.escape_ascii());
             false
         }
     }
@@ -154,6 +157,7 @@ pub fn argument<R: Env>(rt: &R, i: usize, buf: &mut [u8]) -> usize
     rt.arg(i, buf).unwrap_or(0)
 }
 
+// Whether the program was started with an argument i, however long.
 fn is_argument<R: Env>(rt: &R, i: usize) -> bool {
     let mut byte = [0u8; 1];
     !matches!(rt.arg(i, &mut byte), Err(FillError::NotPresent))

@@ -1,5 +1,5 @@
 -- All that we promise, on one page, in the order and the words of the demands (document 00). `Checks`, `Runs` and `Traces` are
--- the contracts of `check`, `run` and `trace` (the module Contracts of crates/words/specs); what is promised holds of
+-- the contracts of `check`, `run` and `trace` (the module Statements of crates/words/specs); what is promised holds of
 -- whatever satisfies them, and no function has a `requires`: nothing is asked of the caller. The proofs are elsewhere. `img` is the
 -- script's bytes, as document 01 calls them its image; the premise `Bytes` is what a slice of bytes is. Assumes nothing.
 use Prim.Native.Nat.{ℕ, ◌<◌, ◌≤◌}
