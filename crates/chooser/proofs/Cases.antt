@@ -1,6 +1,6 @@
 -- What `turns` makes, computed from the bytes: a missing file, a refused script, and a fair run with each of its ends. What must be picked was found by hand
 -- from the order's sentences; for the two with branches, in FairCases of the crate fair. That a run without a step makes a file of no bytes is a law (SameEnd
--- no-bytes): to compute one from its 257 nodes takes too long. Assumes nothing.
+-- no_bytes): to compute one from its 257 nodes takes too long. Assumes nothing.
 use mathlib.Core.Path.{◌≡◌, refl}
 use mathlib.Core.Option.{none, some}
 use mathlib.Core.List.{[], ◌∷◌}

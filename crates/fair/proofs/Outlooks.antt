@@ -22,7 +22,7 @@ use Rattle.fair.proofs.Leaves.{calm-moves}
 use Rattle.fair.proofs.Queues.{front-once}
 use Rattle.fair.proofs.Lines.{Between, first-between, one_fewer}
 use Rattle.fair.proofs.Turning.{turn-keeps}
-use Rattle.fair.proofs.Moments.{Moment, between, within, next-moment, not_done}
+use Rattle.fair.proofs.Moments.{Moment, between, next-moment, not_done}
 use Rattle.fair.proofs.Picked.{picks-full, run_on, run-breaks}
 use Rattle.fair.proofs.Ending.{picks_start, fair-start}
 use Rattle.fair.proofs.Waiting.{between-after, between-turns, turn-begins, turns-picks, turns-reach}

@@ -10,7 +10,7 @@ use lib.ListN.{length}
 use Rattle.rules.specs.Syntax.{Cmd, skip, seq}
 use Rattle.rules.specs.Published.{image}
 use Rattle.grammar.specs.Classes.{in_word}
-use Rattle.grammar.specs.Tokens.{Tok, k_skip, lbrace, rbrace, semi, spelled}
+use Rattle.grammar.specs.Tokens.{Tok, k_skip, lbrace, rbrace, semi}
 use Rattle.grammar.specs.Places.{marked, Spot, spot, Spelled, ends, a_word, a-symbol, begins, paired}
 use Rattle.grammar.specs.FieldList.{Entry, word_of, code_of, Listed}
 use Rattle.grammar.specs.Grammar.{Writes, a_command, skips, in-sequence}

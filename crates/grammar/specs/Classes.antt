@@ -1,6 +1,6 @@
 -- The classes of the 256 bytes: order 1, "Each byte has one of a few classes, fixed for all 256 bytes." 0 is no class: such a byte is bad.
 -- Letters are the 52 of ASCII. Assumes nothing.
-use Rattle.std.specs.Prelude.{ℕ, Bool, true, false, cond, ◌&&◌, ◌||◌, List, [], ◌∷◌, eqb, leb}
+use Rattle.std.specs.Prelude.{ℕ, Bool, false, cond, ◌&&◌, ◌||◌, List, [], ◌∷◌, eqb, leb}
 
 abbrev pub no_class : ℕ
 no_class = 0

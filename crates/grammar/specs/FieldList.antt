@@ -1,6 +1,6 @@
 -- The list of fields: order 1, "a list of rows (name, comma, decimal code, byte 10) gives each field name its code, and its codes are the
 -- image's field body." Every row ends with byte 10, the last too; an empty list is right. Assumes nothing.
-use Rattle.std.specs.Prelude.{ℕ, suc, ◌≤◌, ◌≡◌, Bool, true, false, cond, ◌||◌, List, [], ◌∷◌, ◌++◌, map, length}
+use Rattle.std.specs.Prelude.{ℕ, suc, ◌≤◌, ◌≡◌, true, cond, List, [], ◌∷◌, ◌++◌, map, length}
 use Rattle.std.proofs.Math.Option.{Option, none, some}
 use Rattle.rules.specs.Image.{most_fields}
 use Rattle.rules.specs.Published.{Increasing}

@@ -1,7 +1,7 @@
 -- The written form: document 002, section 1, rule by rule, with order 1's sentences as conditions. `Writes (a_command c) ts` says that the
 -- tokens ts are a way to write the command c; trees carry node number 0 throughout. The paper's rules are ambiguous: `e - e - e` has two
 -- readings by them. The conditions leave one (`reading`, proofs/OneReading). There is no order of reading here. Assumes nothing.
-use Rattle.std.specs.Prelude.{ℕ, ◌-◌, ◌^◌, ◌%◌, ◌<◌, ◌≤◌, ◌≡◌, Bool, true, false, List, [], ◌∷◌, ◌++◌, map}
+use Rattle.std.specs.Prelude.{ℕ, ◌-◌, ◌^◌, ◌%◌, ◌<◌, ◌≤◌, ◌≡◌, List, [], ◌∷◌, ◌++◌, map}
 use Rattle.rules.specs.Syntax.{Exp, Test, Cmd, field, int, diff, null, ref, select, proc, is_true, is_false, equal, less, var, call, malloc, assign, assign_field, skip, seq, while, if, par, atom}
 use Rattle.grammar.specs.Tokens.{Tok, name, field_name, number, kind_of, sign, minus, k_null, k_proc, k_true, k_false, k_var, k_malloc, k_skip, k_while, k_if, k_else, k_atom, lpar, rpar, lbrace, rbrace, semi, bars, dot, becomes, equals, below, colon}
 

@@ -1,8 +1,8 @@
 -- What a written script is read as: order 1's answers. `Reads` says which image a text stands for; `Wrong` and `RefusedText` have a sentence for each of the
 -- refusals 22 to 27, and `Refuses` for all of them. There is no order of reading here: "the first place" is the first with which the text can't
 -- go on to a text of the grammar, within the list and the limits. That there is always just one answer is shown in `reading`. Assumes nothing.
-use Rattle.std.specs.Prelude.{ℕ, suc, ◌+◌, ◌*◌, ◌<◌, ◌≤◌, ◌≡◌, List, [], ◌∷◌, ◌++◌, map, length}
-use Rattle.std.proofs.Math.Option.{Option, none, some}
+use Rattle.std.specs.Prelude.{ℕ, ◌+◌, ◌*◌, ◌<◌, ◌≤◌, ◌≡◌, List, [], ◌∷◌, ◌++◌, map, length}
+use Rattle.std.proofs.Math.Option.{none, some}
 use Rattle.rules.specs.Syntax.{Cmd}
 use Rattle.rules.specs.Image.{most_fields, most_nodes, most_names}
 use Rattle.rules.specs.Published.{image}

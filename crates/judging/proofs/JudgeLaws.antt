@@ -1,7 +1,7 @@
 -- What is decided of the next place: each answer of the code, with what was learnt on the way to it, is the answer for every way in which the text may have
 -- been read so far. Assumes nothing.
 use Prim.Native.Nat.{ℕ, ◌<◌}
-use mathlib.Core.Path.{◌≡◌, refl, sym, ap, subst, ◌∙◌}
+use mathlib.Core.Path.{◌≡◌, refl, sym, ap, ◌∙◌}
 use mathlib.Core.Bool.{true, false, true≢false}
 use mathlib.Core.Option.{Option, none, some}
 use mathlib.Core.List.{List, [], ◌∷◌, ◌++◌, map}
@@ -9,9 +9,9 @@ use native.Mathlib.Omega.{arith}
 use native.Mathlib.Decide.{ℕ_discrete}
 use lib.ListN.{length, get_or}
 use lib.Seq.{slice}
-use borrow.Author.Tests.{eq-eqb, ne_eqb}
+use borrow.Author.Tests.{ne_eqb}
 use Rattle.rules.specs.Image.{most_names}
-use Rattle.grammar.specs.Tokens.{Tok, value_of}
+use Rattle.grammar.specs.Tokens.{value_of}
 use Rattle.grammar.specs.Places.{Piece, variable, field_word, digits, marked, bad_byte, present, decimal}
 use Rattle.grammar.specs.FieldList.{Entry, word_of, position_of}
 use Rattle.grammar.specs.Names.{noted, token_of, piece_kind}

@@ -1,31 +1,11 @@
 -- Of SetRuns, what follows from its last lemma, in a file of its own: so a must-fail edit that makes that lemma fail is read as refused. Assumes nothing.
-use Prim.Native.Nat.{ℕ, suc}
-use mathlib.Core.Path.{◌≡◌, refl, sym, ap, subst, ◌∙◌}
-use mathlib.Core.Bool.{Bool, true, false, cond}
-use mathlib.Core.Logic.{◌⊎◌, inl, inr}
-use mathlib.Core.Option.{Option, none, some, map}
-use mathlib.Core.List.{List, [], ◌∷◌}
-use native.Mathlib.Nat.{zero-add}
+use Prim.Native.Nat.{ℕ}
+use mathlib.Core.Path.{◌≡◌, sym, ap, subst, ◌∙◌}
+use mathlib.Core.List.{List}
 use native.Mathlib.Omega.{arith}
-use lib.ListN.{take}
-use Rattle.rules.specs.Script.{root_of}
-use Rattle.rules.specs.declared.Value.{Value}
-use Rattle.rules.specs.declared.Value.TheVariants.{Nothing, Null, Int, Field, Object, Proc, Unset}
-use Rattle.rules.specs.declared.Frame.{Frame}
-use Rattle.rules.specs.declared.Stop.{Stop}
-use Rattle.rules.specs.declared.Stop.TheVariants.{Faulted, Full}
-use Rattle.rules.specs.declared.End.{End}
-use Rattle.rules.specs.declared.End.TheVariants.{Done, UsedUp, Stopped}
-use Rattle.rules.specs.State.{Store, empty, with_cell, frame_at}
-use Rattle.rules.specs.Eval.{unset_variable, fault_no}
-use Rattle.rules.specs.Control.{Control, fits, Outcome, goes_to, stops, room_no, of_control}
-use Rattle.rules.specs.Step.{step, mini_oo}
-use Rattle.rules.specs.Run.{Ran, ran, onward, run_from, run, bare, begins, machine, start, run_script}
-use Rattle.rules.proofs.Runs.{run-moves, run-stops}
-use Rattle.oldrules.specs.BeforeOrder5.{null_machine, null_run, nulled, cell_nulled, with_nulls, ReadUnset, used_up, SameButUnset}
-use Rattle.oldrules.proofs.SetReads.{entry-nulled}
-use Rattle.oldrules.proofs.Until.{used-before}
-use Rattle.oldrules.proofs.SetSteps.{outcome_before, StepCompares, same_step, stops-now, step-compares, StopsOtherwise, WithoutUnset, never-unset-step}
+use Rattle.rules.specs.State.{Store}
+use Rattle.rules.specs.Run.{Ran, ran, run_script}
+use Rattle.oldrules.specs.BeforeOrder5.{null_run, ReadUnset, used_up, SameButUnset}
 use Rattle.oldrules.proofs.SetRuns.{same-unless-read, until, not-read-yet}
 
 module _ (img cs : List ℕ) where

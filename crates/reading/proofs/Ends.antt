@@ -2,16 +2,15 @@
 use Prim.Native.Nat.{ℕ, ◌<◌, ◌≤◌}
 use mathlib.Core.Path.{◌≡◌, sym, ap, subst, ◌∙◌}
 use mathlib.Core.Option.{none, some}
-use mathlib.Core.List.{List, [], ◌++◌, map, append-nil}
+use mathlib.Core.List.{List, [], map, append-nil}
 use lib.ListN.{length, drop}
 use Rattle.rules.specs.Syntax.{Cmd}
 use Rattle.rules.specs.Image.{most_fields, most_nodes}
 use Rattle.rules.specs.Published.{image}
 use Rattle.grammar.specs.Places.{Spelled, line_from, last_line}
 use Rattle.grammar.specs.FieldList.{Entry, code_of}
-use Rattle.grammar.specs.Grammar.{Writes, a_command, Text}
+use Rattle.grammar.specs.Grammar.{Writes, a_command}
 use Rattle.grammar.specs.Nodes.{size_cmd, table_cmd}
-use Rattle.grammar.specs.Names.{names_in}
 use Rattle.grammar.specs.Reads.{ReadsText, RefusedText, early-end, too-many-nodes}
 use Rattle.reading.specs.Items.{Item, items_cmd}
 use Rattle.reading.specs.Links.{nodes_in, link}

@@ -13,7 +13,7 @@ use Rattle.grammar.specs.Places.{Piece, variable, field_word, digits, marked, ba
 use Rattle.grammar.specs.FieldList.{Entry, word_of, position_of}
 use Rattle.grammar.specs.Grammar.{Text}
 use Rattle.grammar.specs.Names.{noted, names_from, names_in, token_of, tokens_of, piece_kind}
-use Rattle.grammar.specs.Reads.{Valued, Right, GoesOn, Wrong, bad-byte, bad-order, unknown-field, outside-32-bits, too-many-names, RefusedText, at-a-place}
+use Rattle.grammar.specs.Reads.{Right, GoesOn, Wrong, bad-byte, bad-order, unknown-field, outside-32-bits, too-many-names, RefusedText, at-a-place}
 use Rattle.grammar.proofs.Spelling.{spelled-some}
 use Rattle.grammar.proofs.Numbering.{position-new}
 use Rattle.reading.specs.Items.{Item}

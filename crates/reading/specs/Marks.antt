@@ -1,6 +1,6 @@
 -- What a token has to be for its kind to say what it is: a mark of kind 1, 2 or 3 would look like a name, a field or a number and is none.
 -- The tokens that a text is made of are known in this sense. Assumes nothing.
-use Rattle.std.specs.Prelude.{ℕ, ◌<◌, List, [], ◌∷◌}
+use Rattle.std.specs.Prelude.{◌<◌, List, [], ◌∷◌}
 use Rattle.grammar.specs.Tokens.{Tok, name, field_name, number, mark}
 
 abbrev pub IsMark : Tok → Type 0

@@ -1,7 +1,7 @@
 -- What control becomes with something in place of a command: by the rules for control (`InPlace`) it is what `put` computes, and
 -- nothing else. Assumes nothing.
 use Prim.Native.Nat.{ℕ}
-use mathlib.Core.Path.{◌≡◌, refl, sym, ap, ◌∙◌}
+use mathlib.Core.Path.{◌≡◌, refl, ap, ◌∙◌}
 use mathlib.Core.Option.{Option, some}
 use lib.ListN.{get_elem?}
 use Rattle.rules.specs.Syntax.{Cmd}

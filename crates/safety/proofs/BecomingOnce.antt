@@ -1,13 +1,9 @@
 -- Of Becoming, what follows from its last lemma, in a file of its own: so a must-fail edit that makes that lemma fail is read as refused. Assumes nothing.
 use Prim.Native.Nat.{ℕ}
-use mathlib.Core.Path.{◌≡◌, refl, sym, ap, ◌∙◌}
-use mathlib.Core.Option.{Option, some}
-use lib.ListN.{get_elem?}
+use mathlib.Core.Path.{◌≡◌, sym, ◌∙◌}
+use mathlib.Core.Option.{Option}
 use Rattle.rules.specs.Syntax.{Cmd}
-use Rattle.rules.specs.declared.Chain.{Chain}
-use Rattle.rules.specs.Control.{Control, move, movable, goes_to}
-use Rattle.rules.specs.Step.{put}
-use Rattle.rules.proofs.AgreeTree.{around, tree-if, tree-only}
+use Rattle.rules.specs.Control.{Control}
 use Rattle.safety.specs.Atoms.{InPlace}
 use Rattle.safety.proofs.Becoming.{becomes-put}
 

@@ -1,24 +1,19 @@
 -- What a sequence or parallel needs: all that the commands need which it is opened to, those that can move and those that
 -- wait, in its own chain (document 01, "Steps": opened whenever they are put into control). Assumes nothing.
 use Prim.Native.Nat.{ℕ}
-use mathlib.Core.Path.{◌≡◌, refl, subst}
-use mathlib.Core.Option.{some}
-use lib.ListN.{get_elem?}
+use mathlib.Core.Path.{◌≡◌, refl}
 use lib.Dec.{T}
 use Rattle.rules.specs.Syntax.{Cmd, no_cmd, var, call, malloc, assign, assign_field, skip, seq, while, if, par, atom, cmd_no}
 use Rattle.rules.specs.Scope.{Names}
 use Rattle.rules.specs.declared.Chain.{Chain}
 use Rattle.rules.specs.Script.{Script}
-use Rattle.rules.specs.Control.{Control, command, followed, beside, entered, opened, move, movable}
+use Rattle.rules.specs.Control.{Control, command, followed, beside, entered, opened}
 use Rattle.safety.specs.Inside.{Waits, next, within, on-left, on-right, inside}
-use Rattle.rules.specs.Step.{put}
 use Rattle.rules.proofs.Around as Around
 use Rattle.safety.specs.Safe.{FitCmd, single}
 use Rattle.safety.specs.Needs.{needs}
 use Rattle.safety.proofs.LinksNeeded.{or-from-left, or-from-right}
 use Rattle.safety.proofs.Progress.{fit_at}
-use Rattle.safety.proofs.Focus.{Focus, focus}
-use Rattle.safety.proofs.Plug.{nested-opened}
 
 module _ (sc : Script) (visible : Names) (ch : Chain) where
   -- Q of every command of a tree, and those that can move are command parts

@@ -1,21 +1,17 @@
 -- Of OpenedNeeds, what follows from its last lemma, in a file of its own: so a must-fail edit that makes that lemma fail is read as refused. Assumes nothing.
 use Prim.Native.Nat.{ℕ}
-use mathlib.Core.Path.{◌≡◌, refl, subst}
+use mathlib.Core.Path.{◌≡◌, subst}
 use mathlib.Core.Option.{some}
 use lib.ListN.{get_elem?}
 use lib.Dec.{T}
-use Rattle.rules.specs.Syntax.{Cmd, no_cmd, var, call, malloc, assign, assign_field, skip, seq, while, if, par, atom, cmd_no}
+use Rattle.rules.specs.Syntax.{Cmd}
 use Rattle.rules.specs.Scope.{Names}
 use Rattle.rules.specs.declared.Chain.{Chain}
 use Rattle.rules.specs.Script.{Script}
-use Rattle.rules.specs.Control.{Control, command, followed, beside, entered, opened, move, movable}
-use Rattle.safety.specs.Inside.{Waits, next, within, on-left, on-right, inside}
+use Rattle.rules.specs.Control.{command, opened, move, movable}
+use Rattle.safety.specs.Inside.{Waits}
 use Rattle.rules.specs.Step.{put}
-use Rattle.rules.proofs.Around as Around
 use Rattle.safety.specs.Safe.{FitCmd, single}
-use Rattle.safety.specs.Needs.{needs}
-use Rattle.safety.proofs.LinksNeeded.{or-from-left, or-from-right}
-use Rattle.safety.proofs.Progress.{fit_at}
 use Rattle.safety.proofs.Focus.{Focus, focus}
 use Rattle.safety.proofs.Plug.{nested-opened}
 use Rattle.safety.proofs.OpenedNeeds.{Each, each_at, each-waits, Less, opened-less}

@@ -1,6 +1,6 @@
 -- Demand 3 at any moment of a run of a script whose root fits, from any start that fits, for any choices: the invariant; the names that the next
 -- step could need; the values held; something can move; only an entered block moves; how the run can end.
--- Room is in RoomsRuns. Assumes nothing.
+-- Room is in RoomsRuns and RoomsRunsIf. Assumes nothing.
 use Prim.Native.Nat.{ℕ, ◌<◌, ◌≤◌}
 use mathlib.Core.Path.{◌≡◌, refl}
 use mathlib.Core.Bool.{true}

@@ -1,26 +1,19 @@
 -- Of RoomsRuns, what follows from its last lemma, in a file of its own: so a must-fail edit that makes that lemma fail is read as refused. Assumes nothing.
 use Prim.Native.Nat.{ℕ}
-use mathlib.Core.Path.{◌≡◌, refl, subst}
-use mathlib.Core.Bool.{Bool, true, false, cond}
-use mathlib.Core.Option.{none, some}
+use mathlib.Core.Path.{◌≡◌}
+use mathlib.Core.Option.{some}
 use mathlib.Core.List.{List}
-use borrow.Author.Tests.{leb-true, leb-false, le-leb, lt-leb}
-use Rattle.rules.specs.declared.Stop.{Stop}
+use borrow.Author.Tests.{le-leb, lt-leb}
 use Rattle.rules.specs.declared.Stop.TheVariants.{Full}
 use Rattle.rules.specs.declared.End.TheVariants.{Stopped}
 use Rattle.rules.specs.State.{Store, most_parts}
 use Rattle.rules.specs.Script.{Script}
-use Rattle.rules.specs.Control.{Control, parts, fits, stops}
-use Rattle.rules.specs.Paper.{Makes, no_room}
-use Rattle.rules.proofs.Agree.{paper-if, room-exactly}
-use Rattle.rules.specs.Step.{step, mini_oo}
-use Rattle.rules.specs.Run.{ran, run_from, run, Start, begins}
+use Rattle.rules.specs.Control.{parts, fits}
+use Rattle.rules.specs.Step.{mini_oo}
+use Rattle.rules.specs.Run.{ran, run, Start, begins}
 use Rattle.safety.specs.Reaches.{StoppedAt}
-use Rattle.safety.specs.Rooms.{NoRoom, ForRoom, at-start, in-run}
-use Rattle.safety.proofs.Plans.{Why}
-use Rattle.safety.proofs.ReachesStep.{stop-only}
-use Rattle.safety.proofs.Ends.{stops-only, stops-if}
-use Rattle.safety.proofs.Rooms.{Explains, explain}
+use Rattle.safety.specs.Rooms.{ForRoom, at-start, in-run}
+use Rattle.safety.proofs.Ends.{stops-if}
 use Rattle.safety.proofs.RoomsRuns.{room-if}
 
 module _ (sc : Script) where

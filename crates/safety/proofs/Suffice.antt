@@ -2,10 +2,7 @@
 -- needed names its chain bears is not stuck, whatever else that chain bears: so `needs` leaves out no name that the step
 -- reads or writes. A procedure that it makes is only known to be a proc of the script (`Stated`). Assumes nothing.
 use Prim.Native.Nat.{ℕ, ◌≤◌}
-use mathlib.Core.Path.{◌≡◌, subst}
 use mathlib.Core.Bool.{◌||◌}
-use mathlib.Core.Option.{some}
-use lib.ListN.{get_elem?}
 use lib.Dec.{T, eqb, eqb_refl}
 use Rattle.rules.specs.Syntax.{Exp, Test, Cmd, no_cmd, var, call, malloc, assign, assign_field, skip, seq, while, if, par, atom}
 use Rattle.rules.specs.Scope.{Names}
@@ -13,15 +10,12 @@ use Rattle.rules.specs.declared.Chain.{Chain}
 use Rattle.rules.specs.declared.Value.{Value}
 use Rattle.rules.specs.State.{Store, find, field_of, object_at, HasFrame, HasObject}
 use Rattle.rules.specs.Script.{Script}
-use Rattle.rules.specs.Eval.{fault_no, no_object, no_field, no_procedure, stuck, there, Closure, closure, as_object, as_field, as_proc, eval, test}
-use Rattle.rules.specs.Control.{opened, move, movable}
+use Rattle.rules.specs.Eval.{fault_no, no_object, no_field, no_procedure, there, Closure, closure, as_object, as_field, as_proc, eval, test}
 use Rattle.rules.specs.Step.{calling, into_field, exec_by, exec}
 use Rattle.safety.specs.Safe.{FitExp, FitTest, FitCmd, single, RealIf, RealObject, RealStore}
 use Rattle.safety.specs.Fits.{Fine}
-use Rattle.safety.specs.Found.{Borne}
 use Rattle.safety.specs.Needs.{needs_exp, needs_test, needs}
 use Rattle.safety.proofs.LinksNeeded.{Bear, first, second}
-use Rattle.safety.proofs.OpenedParts.{opened-moves}
 use Rattle.safety.proofs.Fine.{Any, Of, Stated, fine_bind, fine-there, fine-object, fine-field, fine-proc, fine-object-at, fine-field-of, fine-find, eval-borne, test-borne}
 
 module _ (sc : Script) (s : Store) (good : RealStore sc s) (visible : Names) (ch : Chain) where

@@ -1,18 +1,12 @@
 -- Of UnsetRuns, what follows from its last lemma, in a file of its own: so a must-fail edit that makes that lemma fail is read as refused. Assumes nothing.
 use Prim.Native.Nat.{ℕ}
-use mathlib.Core.Path.{refl, ap, subst, sym}
-use mathlib.Core.Logic.{◌⊎◌, inl, inr}
-use mathlib.Core.Option.{Option, some, none-ne-some}
-use mathlib.Core.List.{List, [], ◌∷◌}
-use Rattle.rules.specs.State.{Store, empty}
+use mathlib.Core.Option.{Option}
+use mathlib.Core.List.{List}
+use Rattle.rules.specs.State.{Store}
 use Rattle.rules.specs.Script.{Script}
 use Rattle.rules.specs.Control.{Control}
-use Rattle.rules.specs.Step.{mini_oo}
-use Rattle.safety.specs.Reaches as R
-use Rattle.safety.specs.Reaches.{Reaches}
-use Rattle.safety.specs.Unset.{UnsetAt, StoresTo, NotStored, stays, goes, Declares, DeclaredOnly}
-use Rattle.safety.proofs.Reaches.{reach-on}
-use Rattle.safety.proofs.UnsetSteps.{unset-before, unset-after, declared-unset}
+use Rattle.safety.specs.Unset.{UnsetAt, DeclaredOnly}
+use Rattle.safety.proofs.UnsetSteps.{declared-unset}
 use Rattle.safety.proofs.UnsetRuns.{not-stored-unset}
 
 module _ (sc : Script) (k : ℕ) (s' : Store) (o' : Option Control) where

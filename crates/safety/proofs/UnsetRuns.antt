@@ -13,7 +13,7 @@ use Rattle.safety.specs.Reaches as R
 use Rattle.safety.specs.Reaches.{Reaches}
 use Rattle.safety.specs.Unset.{UnsetAt, StoresTo, NotStored, stays, goes, Declares, DeclaredOnly}
 use Rattle.safety.proofs.Reaches.{reach-on}
-use Rattle.safety.proofs.UnsetSteps.{unset-before, unset-after, declared-unset}
+use Rattle.safety.proofs.UnsetSteps.{unset-before, unset-after}
 
 module _ (sc : Script) (k : ℕ) (s' : Store) (o' : Option Control) where
   -- it was unset at the beginning and isn't stored to, or it was declared on the way

@@ -1,6 +1,6 @@
 -- Which variables are unset, by the steps of a run (order 5: "Let a cell made by var begin as unset"): a step declared the variable, and
 -- none after it has stored to it, by an assignment or a malloc of a name that means it. No cell is looked at: that the unset cells are
--- those of exactly these variables, at every moment of a run, is shown in proofs/UnsetRuns. Assumes nothing.
+-- those of exactly these variables, at every moment of a run, is shown in proofs/UnsetRuns and UnsetIf. Assumes nothing.
 use Rattle.std.specs.Prelude.{ℕ, ◌≡◌, List, [], ◌∷◌, ◌++◌}
 use Rattle.std.proofs.Math.Option.{Option, some}
 use Rattle.std.proofs.Math.ListN.{get_elem?}

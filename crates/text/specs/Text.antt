@@ -1,5 +1,5 @@
 -- Text as a list of bytes: numbers in decimal, and a line made of words. ASCII throughout.
--- The digits are those of the kit's `io::decimal`: `digits b k n` is the last k digits of n, the most significant first.
+-- The digits are those of the kit's `io::decimal`: `last_digits b k n` is the last k digits of n, the most significant first.
 -- Assumes nothing.
 use Rattle.std.specs.Prelude.{ℕ, zero, suc, ◌/◌, true, false, List, [], ◌∷◌, ◌++◌, ltb, ℤ, pos, negsuc}
 use Rattle.io.specs.Digits.{last_digits}

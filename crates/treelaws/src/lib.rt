@@ -1,5 +1,6 @@
 // The answers of comparing two trees pair by pair. There are no functions: what the answers say stands in specs/, the laws
 // that the code of `trees` cites in proofs/; `evallaws` and `writer` cite what two equal trees are made of (SameTables).
+#![tactic(auto)]
 
 // What a look at two nodes, or at two of their words, finds: they differ; there is no room for a pair of children; or as
 // many pairs wait now.

@@ -1,5 +1,7 @@
 // No code: the contract of the fair run, what its loop keeps and what its parts say, and the laws that the loop cites. The
 // types that they share with the code:
+#![tactic(auto)]
+
 use rules::Answer;
 
 // The answer of a fair run, and how many choices it picked: with an end by a step that wasn't made one more than its steps.

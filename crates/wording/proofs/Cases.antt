@@ -1,6 +1,5 @@
 -- The lines, computed: the example of the documents, a row of each table, and what each condition does. So none of them can change with the
 -- code that writes. Assumes nothing.
-use Prim.Native.Nat.{ℕ}
 use mathlib.Core.Path.{◌≡◌, refl}
 use mathlib.Core.Bool.{Bool, true, false}
 use mathlib.Core.List.{List, [], ◌∷◌, ◌++◌}

@@ -6,7 +6,6 @@ use mathlib.Core.List.{List, map}
 use native.Mathlib.Omega.{arith}
 use lib.ListN.{length, length-map}
 use Rattle.laws.specs.UpTo.{length-up_to, up_to-of, same-elems}
-use Rattle.rules.specs.Syntax.{Cmd}
 use Rattle.rules.specs.Image.{most_nodes, most_names, fields_of, code_at, names_of}
 use Rattle.rules.specs.Scope.{Names}
 use Rattle.rules.specs.Published.{Published}

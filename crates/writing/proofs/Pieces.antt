@@ -8,7 +8,7 @@ use mathlib.Core.List.{List, [], ◌∷◌, ◌++◌}
 use lib.Dec.{eqb}
 use borrow.Author.Tests.{eqb-true}
 use Rattle.laws.specs.Bools.{or_right}
-use Rattle.grammar.specs.Classes.{digit, blanks, symbols, among, class_of, is_letter, is_digit, in_word}
+use Rattle.grammar.specs.Classes.{blanks, symbols, among, class_of, is_letter, is_digit, in_word}
 use Rattle.grammar.specs.Tokens.{Spelling, spelling, reserved, single, double, same_word, spelled}
 use Rattle.grammar.specs.Places.{Piece, variable, field_word, digits, marked, Spot, spot, lower_or, word_piece, decimal, every, begins, present, paired, line_after, Spelled, a-blank, a_word, a-number, a-symbol, a_pair, a-sign, a-minus}
 use Rattle.grammar.specs.FieldList.{FieldName}

@@ -5,7 +5,7 @@ use mathlib.Core.Path.{◌≡◌, sym, ap, subst, ◌∙◌}
 use mathlib.Core.List.{List, [], map}
 use native.Mathlib.Omega.{arith}
 use lib.ListN.{length, get_or, length-map}
-use Rattle.laws.specs.UpTo.{up_to, length-up_to}
+use Rattle.laws.specs.UpTo.{length-up_to}
 use Rattle.rules.specs.Syntax.{Cmd}
 use Rattle.rules.specs.Image.{most_fields, most_nodes, most_names}
 use Rattle.rules.specs.Published.{Increasing, image}
@@ -16,7 +16,7 @@ use Rattle.grammar.specs.Names.{names_in}
 use Rattle.grammar.specs.Reads.{ReadsText, Lent, Reads}
 use Rattle.grammar.specs.Proper.{ProperCmd, Field, Name}
 use Rattle.writing.specs.WriteTokens.{write_cmd}
-use Rattle.writing.specs.Spell.{spell, places_for, VariableName, Each, Spellable, made_up, made_up_field, entries_for, list_of}
+use Rattle.writing.specs.Spell.{places_for, VariableName, Each, Spellable, made_up, made_up_field, list_of}
 use Rattle.writing.specs.Back.{text_of, image_of, made_up_fields, made_up_names}
 use Rattle.writing.specs.Renumber.{appearing, place_in, rename_tok, rename_cmd, names_written, by_appearance}
 use Rattle.writing.proofs.WritesBack.{writes-back}

@@ -5,7 +5,6 @@ use Rattle.rules.specs.Image.{fields_of}
 use mathlib.Core.Path.{◌≡◌}
 use Prim.Native.Nat.{◌-◌}
 use Prim.Native.Nat.{◌≤◌}
-use borrow.Author.Rules.{rules}
 use Rattle.checker.proofs.codes.Given as goal
 
 abbrev pub invariant-loop-i : goal.invariant-loop-i

@@ -1,4 +1,3 @@
-use Rattle.std.proofs.Common.{rules}
 use Rattle.namecheck.proofs.Shapes.{shapes}
 use Rattle.checklaws.proofs.Handing.{visiting}
 use Rattle.namecheck.proofs.visit.Goals as goal

@@ -5,7 +5,6 @@ use Rattle.rules.specs.Image.{nodes_of}
 use mathlib.Core.Path.{◌≡◌}
 use Prim.Native.Nat.{◌-◌}
 use Prim.Native.Nat.{◌≤◌}
-use borrow.Author.Rules.{rules}
 use Rattle.nodecheck.proofs.all_nodes.Given as goal
 
 abbrev pub invariant-loop-n : goal.invariant-loop-n

@@ -7,13 +7,10 @@ pub returns-then-class_of-ne-LOWER : goal.returns-then-class_of-ne-LOWER
 returns-then-class_of-ne-LOWER c = search (rules, not_lower)
 
 pub returns-then-kind_of_word-ne-FIELD : goal.returns-then-kind_of_word-ne-FIELD
--- old: let kind = c.before in let class = kind.before.before in name-reserved _ _ _ (search rules) (search rules) (search rules) class.class_of.ensures kind.kind-of-word.ensures (search rules) (search rules)
 returns-then-kind_of_word-ne-FIELD c = search (rules, not_lower, name-reserved, name-repeated, name-right)
 
 pub returns-then-name_index-ne0 : goal.returns-then-name_index-ne0
--- old: let index = c.before in let kind = index.before.before in let class = kind.before.before in name-repeated _ _ _ (search rules) (search rules) (search rules) class.class_of.ensures kind.kind-of-word.ensures index.name-index.ensures (search rules) (search rules) (search rules)
 returns-then-name_index-ne0 c = search (rules, not_lower, name-reserved, name-repeated, name-right)
 
 pub returns : goal.returns
--- old: let index = c.before in let kind = index.before.before in let class = kind.before.before in name-right _ _ _ (search rules) (search rules) (search rules) class.class_of.ensures kind.kind-of-word.ensures index.name-index.ensures (search rules) (search rules) (search rules)
 returns c = search (rules, not_lower, name-reserved, name-repeated, name-right)

@@ -1,5 +1,4 @@
 -- `judging::worth::name_index` meets its contract: none of the names passed is the one sought. Assumes nothing.
-use Prim.Native.Nat.{◌-◌}
 use borrow.Author.Rules.{rules}
 use Rattle.fieldlist.proofs.SameLaws.{sought-more}
 use Rattle.judging.proofs.worth.name_index.Goals as goal

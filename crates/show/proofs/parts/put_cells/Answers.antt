@@ -1,7 +1,4 @@
 -- `show::parts::put_cells` meets its contract. The invariant of its loop: the text of the first k cells stands. Assumes nothing.
-use Rattle.show.specs.Entries.{frames_up_to}
-use Rattle.text.specs.Written.{Wrote}
-use Rattle.listed.specs.Listing.{cell_lines}
 use Rattle.show.proofs.Turns.{counts-on, ends_at, ends-at-count, cells-none, cells-turn, cells-all}
 use Rattle.std.proofs.Common.{rules}
 use Rattle.show.proofs.parts.put_cells.Goals as goal

@@ -5,7 +5,7 @@ use mathlib.Core.Path.{◌≡◌}
 use lib.ListN.{length}
 use Rattle.show.specs.Entries.{frames_up_to}
 use Rattle.text.specs.Written.{Wrote}
-use Rattle.listed.specs.Listing.{cell_lines, cell_line}
+use Rattle.listed.specs.Listing.{cell_lines}
 use Rattle.show.proofs.parts.put_cells.Given as goal
 
 abbrev pub invariant-loop-k : goal.invariant-loop-k

@@ -1,7 +1,4 @@
 -- `show::parts::put_object` meets its contract. The invariant of its loop: the text of the first i fields stands. Assumes nothing.
-use Rattle.show.specs.Entries.{fields_up_to}
-use Rattle.text.specs.Written.{Wrote}
-use Rattle.listed.specs.Listing.{field_lines}
 use Rattle.show.proofs.Turns.{counts-on, ends_at, ends-at-count, fields-none, fields-turn, fields-all}
 use Rattle.std.proofs.Common.{rules}
 use Rattle.show.proofs.parts.put_object.Goals as goal

@@ -5,7 +5,7 @@ use mathlib.Core.Path.{◌≡◌}
 use lib.ListN.{length}
 use Rattle.show.specs.Entries.{fields_up_to}
 use Rattle.text.specs.Written.{Wrote}
-use Rattle.listed.specs.Listing.{field_lines, field_line}
+use Rattle.listed.specs.Listing.{field_lines}
 use Rattle.show.proofs.parts.put_object.Given as goal
 
 abbrev pub invariant-loop-i : goal.invariant-loop-i

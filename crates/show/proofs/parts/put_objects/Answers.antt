@@ -1,7 +1,4 @@
 -- `show::parts::put_objects` meets its contract. The invariant of its loop: the text of the first o objects stands. Assumes nothing.
-use Rattle.show.specs.Entries.{objects_up_to}
-use Rattle.text.specs.Written.{Wrote}
-use Rattle.listed.specs.Listing.{object_lines}
 use Rattle.show.proofs.Turns.{counts-on, ends_at, ends-at-count, objects-none, objects-turn, objects-all}
 use Rattle.std.proofs.Common.{rules}
 use Rattle.show.proofs.parts.put_objects.Goals as goal

@@ -1,7 +1,4 @@
 -- `show::parts::put_rows` meets its contract. The invariant of its loop: the text of the first i rows stands. Assumes nothing.
-use Rattle.show.specs.Entries.{rows_in}
-use Rattle.text.specs.Written.{Wrote}
-use Rattle.listed.specs.Listing.{row_lines}
 use Rattle.show.proofs.Turns.{rows_none, rows-turn, rows_all}
 use Rattle.std.proofs.Common.{rules}
 use Rattle.show.proofs.parts.put_rows.Goals as goal

@@ -5,7 +5,7 @@ use mathlib.Core.Path.{◌≡◌}
 use lib.ListN.{length}
 use Rattle.show.specs.Entries.{rows_in}
 use Rattle.text.specs.Written.{Wrote}
-use Rattle.listed.specs.Listing.{row_lines, row_line}
+use Rattle.listed.specs.Listing.{row_lines}
 use Rattle.show.proofs.parts.put_rows.Given as goal
 
 abbrev pub invariant-loop-i : goal.invariant-loop-i

@@ -1,7 +1,6 @@
 use Prim.Native.Nat.{◌-◌}
 use Prim.Native.Nat.{◌≤◌}
 use mathlib.Core.Path.{◌≡◌}
-use mathlib.Core.Path.{ap}
 use mathlib.Core.List.{flatten}
 use mathlib.Core.List.{map}
 use lib.ListN.{length}

@@ -1,5 +1,5 @@
 -- `wording::could::put_could` meets its contract: the words of the first rows stand. Assumes nothing.
-use Rattle.wording.proofs.CouldLaws.{Telling, telling-none, telling-room, telling-more, telling-all}
+use Rattle.wording.proofs.CouldLaws.{telling-none, telling-room, telling-more, telling-all}
 use Rattle.std.proofs.Common.{rules}
 use Rattle.wording.proofs.could.put_could.Goals as goal
 

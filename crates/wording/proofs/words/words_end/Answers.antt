@@ -1,5 +1,5 @@
 -- `wording::words::words_end` meets its contract: no underscore was met so far. Assumes nothing.
-use Rattle.wording.proofs.WordLaws.{Reached, reached-none, reached-more, filler-met, row-passed}
+use Rattle.wording.proofs.WordLaws.{reached-more, filler-met, row-passed}
 use Rattle.std.proofs.Common.{rules}
 use Rattle.wording.proofs.words.words_end.Goals as goal
 
