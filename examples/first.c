@@ -1,6 +1,6 @@
 /* Checks and runs document 01's listing script, `var x; x = 1`, and reads its cell back. Built in the repository's root after
- * `rt staticlib capi`:  cc -Wall -Iinclude examples/first.c target/staticlib/libcapi.a -o target/first && target/first
- * That is on x86-64; on any machine:  tests/x86 build target/first examples/first.c && tests/x86 run target/first */
+ * `tests/make capi`:  cc -Wall -Iinclude examples/first.c target/staticlib/libcapi.a -o target/first && target/first
+ * The same by a script:  tests/x86 build target/first examples/first.c && tests/x86 run target/first */
 #include "flagcopper.h"
 #include <stdio.h>
 

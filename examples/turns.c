@@ -1,7 +1,7 @@
 /* Runs `{var x; x = 1 || var y; y = 2}` with turns taken fairly, and shows the choices that the run picked and how it ended; the
- * base run on these choices ends the same. Built in the repository's root after `rt staticlib capi`:
+ * base run on these choices ends the same. Built in the repository's root after `tests/make capi`:
  *     cc -Wall -Iinclude examples/turns.c target/staticlib/libcapi.a -o target/turns && target/turns
- * That is on x86-64; on any machine:  tests/x86 build target/turns examples/turns.c && tests/x86 run target/turns */
+ * The same by a script:  tests/x86 build target/turns examples/turns.c && tests/x86 run target/turns */
 #include "flagcopper.h"
 #include <stdio.h>
 

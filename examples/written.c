@@ -1,6 +1,6 @@
-/* Reads a written script, runs its image, and says how the run ends. Built in the repository's root after `rt staticlib capi`:
+/* Reads a written script, runs its image, and says how the run ends. Built in the repository's root after `tests/make capi`:
  *     cc -Wall -Iinclude examples/written.c target/staticlib/libcapi.a -o target/written && target/written
- * That is on x86-64; on any machine:  tests/x86 build target/written examples/written.c && tests/x86 run target/written */
+ * The same by a script:  tests/x86 build target/written examples/written.c && tests/x86 run target/written */
 #include "flagcopper.h"
 #include <stdio.h>
 #include <stdlib.h>

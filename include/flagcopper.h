@@ -1,4 +1,4 @@
-/* Flagcopper: a proved interpreter for MiniOO scripts (target/staticlib/libcapi.a, made by `rt staticlib capi`).
+/* Flagcopper: a proved interpreter for MiniOO scripts (target/staticlib/libcapi.a, made by `tests/make capi`).
  *
  * Four functions check a script, run it, run it with a row for each step, and run it with turns taken fairly; one makes the
  * script from MiniOO text, one shows a script as text.

@@ -1,4 +1,4 @@
-//! Gives the package the proved library, made by `rt staticlib capi`, unless the feature `library` is turned off: linked on x86-64, for
+//! Gives the package the proved library, made by `tests/make`, unless the feature `library` is turned off: linked on x86-64, for
 //! which it is compiled; elsewhere `bridge.c` is built with it for `src/library/bridged.rs` to start.
 
 use std::env::var;

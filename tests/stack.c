@@ -1,7 +1,7 @@
 /* How much stack the check, a run and a fair run use: each is called on a stack of its own, filled with a pattern, and the lowest byte
  * that it wrote counts. It ends with 1 when a run takes more stack because it compares long bodies (order 3 of document 02), or
  * doesn't come to compare them.
- * Built and run in the repository's root after `rt staticlib capi`, in less than a second:
+ * Built and run in the repository's root after `tests/make capi`, in less than a second:
  *     tests/x86 build target/stack tests/stack.c && tests/x86 run target/stack */
 #include "flagcopper.h"
 #include <stdio.h>
