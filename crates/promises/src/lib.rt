@@ -1,1 +1,3 @@
+#![tactic(auto)]
+
 // No code: all that we promise, on one page (proofs/Promises.antt).

@@ -1,6 +1,6 @@
 -- What a caller in C or Rust is told of a text: each kind of answer computed, none of them zeros, and no two readings told alike; so a text, a list and what is lent
 -- determine the numbers, every lent word and every byte of the output. And the words to lend, by the code's test. Assumes nothing.
-use Prim.Native.Nat.{ℕ, ◌+◌, ◌*◌, ◌-◌, ◌/◌, ◌<◌, ◌≤◌}
+use Prim.Native.Nat.{ℕ, ◌-◌, ◌/◌, ◌<◌, ◌≤◌}
 use mathlib.Core.Path.{◌≡◌, refl, sym, ap, ◌∙◌}
 use mathlib.Core.List.{List, [], ◌∷◌, ◌++◌}
 use native.Mathlib.Omega.{arith}
@@ -11,7 +11,7 @@ use Rattle.grammar.proofs.Answers.{refused-one}
 use Rattle.reading.proofs.Answered.{one-image, image-or-refusal}
 use Rattle.reader.specs.declared.Reading.{Reading}
 use Rattle.reader.specs.declared.Reading.TheVariants.{Image, Refused}
-use Rattle.reader.specs.Says.{Accepts, Denies, ReadSays, words_after}
+use Rattle.reader.specs.Says.{ReadSays, words_after}
 use Rattle.told.specs.Written.{Written, written_of, TellsReading, largest, words_asked}
 
 -- ---- the answers

@@ -1,5 +1,6 @@
 // The answers as programs in C and Rust are told them (include/flagcopper.h). There are no functions: what each answer is told as stands in specs/, and in
 // proofs/ that zeros are none and that two answers are one.
+#![tactic(auto)]
 
 // The answer of the check: verdict 1 is accepted, 2 refused with the reason's number and place.
 #[repr(C)]
