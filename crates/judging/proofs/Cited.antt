@@ -1,4 +1,4 @@
--- The lemmas that functions name in their attributes, function by function.
+-- The lemmas that functions name in their attributes, function by function. Assumes nothing.
 use Rattle.judging.proofs.JudgeLaws.{taker-is-due}
 use Rattle.judging.proofs.JudgeLaws.{taker-inside}
 use Rattle.judging.proofs.JudgeLaws.{worth-fits}

@@ -1,6 +1,6 @@
 -- Order 5, "Not set is not null": the runs before it and now, for every list of bytes and of choices, accepted or not. Where no
 -- unset variable is read the runs are the same, but that a cell which is still unset held null; where one is read they are the
--- same up to that step, where the run ends with fault 8 now. Before, no cell was unset, and no run ended with fault 8. Assumes nothing.
+-- same up to that step (SetRunsUntil), where the run ends with fault 8 now. Before, no cell was unset, and no run ended with fault 8. Assumes nothing.
 use Prim.Native.Nat.{ℕ, suc}
 use mathlib.Core.Path.{◌≡◌, refl, sym, ap, subst, ◌∙◌}
 use mathlib.Core.Bool.{Bool, true, false, cond}

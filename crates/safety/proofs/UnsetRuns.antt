@@ -1,5 +1,5 @@
 -- Unset over a run (order 5): at every moment the unset cells are those of the variables that a step declared and that no step since
--- has stored to, and no others. So no step stores unset, copies it or makes it otherwise. Assumes nothing.
+-- has stored to (that these are unset: UnsetIf), and no others. So no step stores unset, copies it or makes it otherwise. Assumes nothing.
 use Prim.Native.Nat.{ℕ}
 use mathlib.Core.Path.{refl, ap, subst, sym}
 use mathlib.Core.Logic.{◌⊎◌, inl, inr}

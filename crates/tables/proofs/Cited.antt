@@ -1,4 +1,4 @@
--- The lemmas that functions name in their attributes, function by function.
+-- The lemmas that functions name in their attributes, function by function. Assumes nothing.
 use Rattle.tables.proofs.ByteLaws.{four-words}
 use Rattle.tables.proofs.HeadLaws.{code-none}
 use Rattle.tables.proofs.HeadLaws.{code-more}
