@@ -9,3 +9,4 @@ pub mod NextLaws
 pub mod NumberLaws
 pub mod Determined
 pub mod LineLaws
+pub mod Cited

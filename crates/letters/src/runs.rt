@@ -30,6 +30,7 @@ pub fn word_end(k: &[u8; 256], text: &[u8], at: usize) -> usize
     i
 }
 
+#[tactic(auto, using(crate::proofs::Cited::runs_number_end_lemmas))]
 pub fn number_end(k: &[u8; 256], text: &[u8], at: usize) -> usize
     requires k_value { k.now ≡ classes }
     requires at_in_bounds { at ≤ length text.now }

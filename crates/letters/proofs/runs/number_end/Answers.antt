@@ -1,10 +1,7 @@
 -- `letters::runs::number_end` meets its contract: where the run from a byte on ends, that from the first one on does. Assumes nothing.
-use Rattle.letters.proofs.RunLaws.{number-stops, number-on, run-ended}
+use Rattle.letters.proofs.RunLaws.{number-on, run-ended}
 use Rattle.std.proofs.Common.{rules}
 use Rattle.letters.proofs.runs.number_end.Goals as goal
-
-pub returns-then-class_of-ne-DIGIT : goal.returns-then-class_of-ne-DIGIT
-returns-then-class_of-ne-DIGIT c = search (rules, number-stops)
 
 pub loop-i-preserved : goal.loop-i-preserved
 loop-i-preserved c = search (rules, number-on)
