@@ -25,8 +25,9 @@ use Rattle.fieldlist.specs.Answer.{words, Spans, entries_of}
 use Rattle.fieldlist.specs.Answer as fieldlist
 use Rattle.fieldlist.specs.declared.FieldRows.{FieldRows}
 use Rattle.fieldlist.proofs.Uses.{is_right, is-wrong, codes-of}
-use Rattle.writer.specs.declared.Text.{Text}
-use Rattle.writer.specs.declared.Text.TheVariants.{Bytes, Refused}
+use Rattle.writer.specs.declared.WriteError.{WriteError}
+use Rattle.std.specs.Prelude.{Result, Ok, Err}
+use Rattle.writer.specs.declared.WriteError.TheVariants.{BadImage, BadList, OtherCodes, TooShort}
 use Rattle.writer.specs.Walk.{fields_for}
 use Rattle.writer.specs.Answer.{every_name, verdict, codes_of, Words, made-up, listed, Answers, written, bad-image, bad-list, other-codes, too-short, Said, Spelling, SameCodes, FieldsSay}
 use Rattle.writer.proofs.CodeLaws.{same_count}
@@ -112,11 +113,11 @@ made-words img g = let f = g.sized.few-fields in up_to-same _ made_up_field (fie
 
 -- ---- the answer with these words
 
-said-answers : (img list d e : List ℕ) (ws : List (List ℕ)) (r : Text) → verdict img ≡ Accepted → Words img list ws → Said img ws d r e → Answers img list d r e
-said-answers img list d e ws (Bytes n) a w s = written a w s.0 s.1 s.2
-said-answers img list d e ws (Refused k) a w s = rw (s.0, s.2) (too-short a w s.1)
+said-answers : (img list d e : List ℕ) (ws : List (List ℕ)) (r : Result ℕ WriteError) → verdict img ≡ Accepted → Words img list ws → Said img ws d r e → Answers img list d r e
+said-answers img list d e ws (Ok n) a w s = written a w s.0 s.1 s.2
+said-answers img list d e ws (Err k) a w s = rw (s.0, s.2) (too-short a w s.1)
 
-pub made-answers : (img list d e : List ℕ) (r : Text) → Good img → list ≡ [] → Spelling img (fields_for img spellings starts ends) d r e → FieldsSay img list d r e
+pub made-answers : (img list d e : List ℕ) (r : Result ℕ WriteError) → Good img → list ≡ [] → Spelling img (fields_for img spellings starts ends) d r e → FieldsSay img list d r e
 made-answers img list d e r g z s =
     record {
       says = λ a.
@@ -153,11 +154,11 @@ pub rows_few : (list : List ℕ) (r : FieldRows) → fieldlist.Answers list r �
 rows_few list r a e = (is_right a e).few
 
 module _ (img list : List ℕ) (r : FieldRows) (a : fieldlist.Answers list r) where
-  pub list-wrong : (d : List ℕ) → (r.why ≡ 0 → ⊥) → FieldsSay img list d (Refused 31) d
+  pub list-wrong : (d : List ℕ) → (r.why ≡ 0 → ⊥) → FieldsSay img list d (Err BadList) d
   list-wrong d n = record { says = λ v. bad-list v (is-wrong a n) }
 
   module _ (e : r.why ≡ 0) (b : Bool) (s : SameCodes img r.codes r.count b) where
-    pub codes-other : (d : List ℕ) → (length list ≡ 0 → ⊥) → not b ≡ true → FieldsSay img list d (Refused 32) d
+    pub codes-other : (d : List ℕ) → (length list ≡ 0 → ⊥) → not b ≡ true → FieldsSay img list d (Err OtherCodes) d
     codes-other d n i =
         let f : up_to (λ k. get_or r.codes k 0) r.count ≡ codes_of img → ⊥ = subst (λ t. TrueIff t (up_to (λ k. get_or r.codes k 0) r.count ≡ codes_of img)) (not-true b i) s.says in
         record { says = λ v. other-codes v (is-list list n) (is_right a e).listed (λ q. f (sym (codes-of list r) ∙ q)) }
@@ -172,7 +173,7 @@ module _ (img list : List ℕ) (r : FieldRows) (a : fieldlist.Answers list r) wh
       pub list-spans : Spans list r.from r.to (fields_of img)
       list-spans = rw (← as_many) (is_right a e).spans
 
-      pub list-answers : (d o : List ℕ) (t : Text) → Spelling img (fields_for img list r.from r.to) d t o → FieldsSay img list d t o
+      pub list-answers : (d o : List ℕ) (t : Result ℕ WriteError) → Spelling img (fields_for img list r.from r.to) d t o → FieldsSay img list d t o
       list-answers d o t w =
           let q : fields_for img list r.from r.to ≡ map word_of (entries_of list r) = rw (← as_many) (sym (names_of list r)) in
           record {
@@ -187,8 +188,8 @@ module _ (img : List ℕ) (v : Verdict) (s : (visible : Names) → Shows 1844674
   pub checked : v ≡ Accepted → Good img
   checked e = good every_name size img (sym (s every_name shows-every) ∙ e)
 
-  pub refused-image : (list d : List ℕ) (k p : ℕ) → v ≡ RefusedBy k p → Answers img list d (Refused 30) d
+  pub refused-image : (list d : List ℕ) (k p : ℕ) → v ≡ RefusedBy k p → Answers img list d (Err BadImage) d
   refused-image list d k p e = bad-image (sym (s every_name shows-every) ∙ e)
 
-  pub accepted-image : (list d o : List ℕ) (t : Text) → v ≡ Accepted → FieldsSay img list d t o → Answers img list d t o
+  pub accepted-image : (list d o : List ℕ) (t : Result ℕ WriteError) → v ≡ Accepted → FieldsSay img list d t o → Answers img list d t o
   accepted-image list d o t e f = f.says (sym (s every_name shows-every) ∙ e)

@@ -11,8 +11,9 @@ use Rattle.rules.specs.declared.Verdict.TheVariants.{Accepted, Refused as Refuse
 use Rattle.grammar.specs.FieldList.{Entry, word_of, code_of, Listed, no_row}
 use Rattle.grammar.proofs.Listing.{listed-one}
 use Rattle.writing.specs.Spell.{made_up_field}
-use Rattle.writer.specs.declared.Text.{Text}
-use Rattle.writer.specs.declared.Text.TheVariants.{Bytes}
+use Rattle.writer.specs.declared.WriteError.{WriteError}
+use Rattle.std.specs.Prelude.{Result, Ok, Err}
+use Rattle.writer.specs.declared.WriteError.TheVariants.{BadImage, BadList, OtherCodes, TooShort}
 use Rattle.writer.specs.Answer.{codes_of, Words, made-up, listed, text_of, Answers, written, bad-image, bad-list, other-codes, too-short}
 
 -- ---- the fields' words
@@ -56,11 +57,11 @@ not_short {A} {img} lent v e h w l = let i = ap (λ s. length (text_of img s)) (
 
 -- ---- one answer
 
-pub answers_one : {img list lent out o : List ℕ} {r s : Text} → Answers img list lent r out → Answers img list lent s o → (r ≡ s) × (out ≡ o)
+pub answers_one : {img list lent out o : List ℕ} {r s : Result ℕ WriteError} → Answers img list lent r out → Answers img list lent s o → (r ≡ s) × (out ≡ o)
 answers_one {img} {list} {lent} (written a v e h i) (written b w f k j) =
     let t = ap (text_of img) (words-one v w) in
     let l = e ∙ (ap length t ∙ sym f) in
-    (ap Bytes l, i ∙ (ap₂ (λ x y. x ++ drop y lent) t l ∙ sym j))
+    (ap Ok l, i ∙ (ap₂ (λ x y. x ++ drop y lent) t l ∙ sym j))
 answers_one (written a v e h i) (bad-image b) = not-both a b
 answers_one (written a v e h i) (bad-list b n) = not-bad n v
 answers_one (written a v e h i) (other-codes b n l d) = not-other n l d v

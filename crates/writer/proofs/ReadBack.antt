@@ -26,8 +26,9 @@ use Rattle.writing.proofs.MadeUp.{variables-made-up, fields-made-up}
 use Rattle.writing.proofs.ListsBack.{lists_back, words_of, codes-of, length-of}
 use Rattle.writing.specs.Back.{text_of as spelled_with}
 use Rattle.writing.proofs.ImageBack.{image-back}
-use Rattle.writer.specs.declared.Text.{Text}
-use Rattle.writer.specs.declared.Text.TheVariants.{Bytes, Refused}
+use Rattle.writer.specs.declared.WriteError.{WriteError}
+use Rattle.std.specs.Prelude.{Result, Ok, Err}
+use Rattle.writer.specs.declared.WriteError.TheVariants.{BadImage, BadList, OtherCodes, TooShort}
 use Rattle.writer.specs.Walk.{names_for}
 use Rattle.writer.specs.Answer.{every_name, verdict, codes_of, Words, made-up, listed, text_of, Answers, written, bad-image, bad-list, other-codes, too-short}
 use Rattle.writer.proofs.Determined.{words-one}
@@ -106,11 +107,11 @@ module _ (img : List ℕ) (bytes : AllBytes img) (accepted : verdict img ≡ Acc
     read-words (b ∷ list) (listed l e) = read-listed l e
 
 -- what an answer says of reading
-abbrev ReadSays : ℕ → ℕ → List ℕ → List ℕ → Text → List ℕ → Type 0
-ReadSays room work img list (Bytes n) out = Lent room work (take n out) → Reads room work (list_for img list) (take n out) (renumbered img)
-ReadSays room work img list (Refused k) out = Unit {0}
+abbrev ReadSays : ℕ → ℕ → List ℕ → List ℕ → Result ℕ WriteError → List ℕ → Type 0
+ReadSays room work img list (Ok n) out = Lent room work (take n out) → Reads room work (list_for img list) (take n out) (renumbered img)
+ReadSays room work img list (Err k) out = Unit {0}
 
-read-says : (img list lent : List ℕ) (room work : ℕ) {r : Text} {out : List ℕ} → AllBytes img → Answers img list lent r out → ReadSays room work img list r out
+read-says : (img list lent : List ℕ) (room work : ℕ) {r : Result ℕ WriteError} {out : List ℕ} → AllBytes img → Answers img list lent r out → ReadSays room work img list r out
 read-says img list lent room work bytes (written {words} {n} {out} a w e h i) =
     let t : take n out ≡ text_of img words = rw i (take_at (text_of img words) (drop n lent) n (sym e)) in
     rw t (read-words img bytes a room work list w)
@@ -120,6 +121,6 @@ read-says img list lent room work bytes (other-codes a n l d) = tt
 read-says img list lent room work bytes (too-short a w l) = tt
 
 -- with enough lent to the reader
-pub reads-what-is-written : (img list lent : List ℕ) (room work n : ℕ) (out : List ℕ) → AllBytes img → Answers img list lent (Bytes n) out → Lent room work (take n out)
+pub reads-what-is-written : (img list lent : List ℕ) (room work n : ℕ) (out : List ℕ) → AllBytes img → Answers img list lent (Ok n) out → Lent room work (take n out)
     → Reads room work (list_for img list) (take n out) (renumbered img)
 reads-what-is-written img list lent room work n out bytes a = read-says img list lent room work bytes a

@@ -14,7 +14,8 @@ use Rattle.pen.specs.Draws.{Drawn}
 use Rattle.pen.specs.declared.Pen.{Pen}
 use Rattle.pen.specs.declared.Pen.TheVariants.{At, Over}
 use Rattle.pen.proofs.SpellLaws.{command-spells}
-use Rattle.writer.specs.declared.Text.TheVariants.{Bytes, Refused}
+use Rattle.std.specs.Prelude.{Result, Ok, Err}
+use Rattle.writer.specs.declared.WriteError.TheVariants.{BadImage, BadList, OtherCodes, TooShort}
 use Rattle.writer.specs.Forms.{write_tree}
 use Rattle.writer.specs.Walk.{names_for, fields_for, WritesNode}
 use Rattle.writer.specs.Answer.{text_of, Spelling, Counts, Counted, at_of}
@@ -67,7 +68,7 @@ module _ (img list from to : List ℕ) (g : Good img) (m : ℕ) (i : m ≡ nodes
       record { says = drawn-counts most (text_of img (fields_for img list from to)) d e (λ j. last_kind j (write_tree (tree_at (node_at img) (m - 1)) false)) tokens_from p from_nothing w.says.says }
 
   pub text_says : (n : ℕ) → WritesNode img list from to (length d) (m - 1) false d (At 0 0) e p → length (text_of img (fields_for img list from to)) ≤ length d
-      → n ≡ at_of p → Spelling img (fields_for img list from to) d (Bytes n) e
+      → n ≡ at_of p → Spelling img (fields_for img list from to) d (Ok n) e
   text_says n w h a =
       record { says = drawn-said (text_of img (fields_for img list from to)) d e (λ j. last_kind j (write_tree (tree_at (node_at img) (m - 1)) false)) tokens_from p n from_nothing w.says.says h a }
 
@@ -76,5 +77,5 @@ module _ (img list from to : List ℕ) (g : Good img) (m : ℕ) (i : m ≡ nodes
 pub fits-counted : (most a j : ℕ) (text : List ℕ) (p : Pen) → Counted most text p → p ≡ At a j → length text ≤ most
 fits-counted most a j text p c e = subst (Counts most text) e c.says
 
-pub over-counted : (img : List ℕ) (words : List (List ℕ)) (d : List ℕ) (p : Pen) → Counted (length d) (text_of img words) p → p ≡ Over → Spelling img words d (Refused 33) d
+pub over-counted : (img : List ℕ) (words : List (List ℕ)) (d : List ℕ) (p : Pen) → Counted (length d) (text_of img words) p → p ≡ Over → Spelling img words d (Err TooShort) d
 over-counted img words d p c e = record { says = (refl, subst (Counts (length d) (text_of img words)) e c.says, refl) }

@@ -1,7 +1,7 @@
 -- What `write` answers: an image's tree as text, `spell` of `write_cmd`, with names made up by their numbers, A0, A1, .., and with the fields' words in a list
 -- of order 1's form, or made up, a0, a1, .., where the list is empty. An image is written if it breaks none of the rules 1 to 8: with every name
 -- visible rule 9 can't be broken. A refusal has a number of its own, writes nothing, and comes in the order of the numbers. Assumes nothing.
-use Rattle.std.specs.Prelude.{ℕ, ◌<◌, ◌≤◌, ◌≡◌, Bool, List, [], ◌++◌, map, length, get_or, drop}
+use Rattle.std.specs.Prelude.{ℕ, ◌<◌, ◌≤◌, ◌≡◌, Bool, List, [], ◌++◌, map, length, get_or, drop, Result, Ok, Err}
 use Rattle.laws.specs.Bools.{TrueIff}
 use Rattle.laws.specs.UpTo.{up_to}
 use Rattle.rules.specs.Image.{most_names, fields_of, code_at, node_at, cmd_at}
@@ -17,8 +17,16 @@ use Rattle.writing.specs.Spell.{spell, made_up_field}
 use Rattle.pen.specs.declared.Pen.{Pen}
 use Rattle.pen.specs.declared.Pen.TheVariants.{At, Over}
 use Rattle.writer.specs.Walk.{names_for}
-use Rattle.writer.specs.declared.Text.{Text}
-use Rattle.writer.specs.declared.Text.TheVariants.{Bytes, Refused}
+use Rattle.writer.specs.declared.WriteError.{WriteError}
+use Rattle.writer.specs.declared.WriteError.TheVariants.{BadImage, BadList, OtherCodes, TooShort}
+
+-- ---- why an image is not written, by its number
+
+abbrev pub number_of : WriteError → ℕ
+number_of BadImage = 30
+number_of BadList = 31
+number_of OtherCodes = 32
+number_of TooShort = 33
 
 -- ---- the image
 
@@ -43,22 +51,22 @@ unfoldable pub text_of : List ℕ → List (List ℕ) → List ℕ
 text_of img words = spell (names_for img) words (write_cmd (cmd_at (node_at img) (root_of img)))
 
 -- what was lent, the answer, and what it holds then
-pub data Answers (img list lent : List ℕ) : Text → List ℕ → Type 0 where
+pub data Answers (img list lent : List ℕ) : Result ℕ WriteError → List ℕ → Type 0 where
   written : {words : List (List ℕ)} {n : ℕ} {out : List ℕ} → verdict img ≡ Accepted → Words img list words → n ≡ length (text_of img words) → n ≤ length lent
-      → out ≡ text_of img words ++ drop n lent → Answers img list lent (Bytes n) out
-  bad-image : {k p : ℕ} → verdict img ≡ RefusedBy k p → Answers img list lent (Refused 30) lent
-  bad-list : verdict img ≡ Accepted → ((fs : List Entry) → Listed list fs → ⊥) → Answers img list lent (Refused 31) lent
-  other-codes : {fs : List Entry} → verdict img ≡ Accepted → (list ≡ [] → ⊥) → Listed list fs → (map code_of fs ≡ codes_of img → ⊥) → Answers img list lent (Refused 32) lent
-  too-short : {words : List (List ℕ)} → verdict img ≡ Accepted → Words img list words → length lent < length (text_of img words) → Answers img list lent (Refused 33) lent
+      → out ≡ text_of img words ++ drop n lent → Answers img list lent (Ok n) out
+  bad-image : {k p : ℕ} → verdict img ≡ RefusedBy k p → Answers img list lent (Err BadImage) lent
+  bad-list : verdict img ≡ Accepted → ((fs : List Entry) → Listed list fs → ⊥) → Answers img list lent (Err BadList) lent
+  other-codes : {fs : List Entry} → verdict img ≡ Accepted → (list ≡ [] → ⊥) → Listed list fs → (map code_of fs ≡ codes_of img → ⊥) → Answers img list lent (Err OtherCodes) lent
+  too-short : {words : List (List ℕ)} → verdict img ≡ Accepted → Words img list words → length lent < length (text_of img words) → Answers img list lent (Err TooShort) lent
 
 -- ---- what the functions below it say
 
 -- with these words
-abbrev pub Said : List ℕ → List (List ℕ) → List ℕ → Text → List ℕ → Type 0
-Said img words lent (Bytes n) out = (n ≡ length (text_of img words)) × (n ≤ length lent) × (out ≡ text_of img words ++ drop n lent)
-Said img words lent (Refused k) out = (k ≡ 33) × (length lent < length (text_of img words)) × (out ≡ lent)
+abbrev pub Said : List ℕ → List (List ℕ) → List ℕ → Result ℕ WriteError → List ℕ → Type 0
+Said img words lent (Ok n) out = (n ≡ length (text_of img words)) × (n ≤ length lent) × (out ≡ text_of img words ++ drop n lent)
+Said img words lent (Err k) out = (k ≡ TooShort) × (length lent < length (text_of img words)) × (out ≡ lent)
 
-pub record Spelling (img : List ℕ) (words : List (List ℕ)) (lent : List ℕ) (r : Text) (out : List ℕ) : Type 0 where
+pub record Spelling (img : List ℕ) (words : List (List ℕ)) (lent : List ℕ) (r : Result ℕ WriteError) (out : List ℕ) : Type 0 where
   pub says : Said img words lent r out
 
 -- the length of a text, if it is at most `most`
@@ -78,8 +86,8 @@ pub record SameCodes (img codes : List ℕ) (count : ℕ) (r : Bool) : Type 0 wh
   pub says : TrueIff r (up_to (λ i. get_or codes i 0) count ≡ codes_of img)
 
 -- what is answered to an accepted image
-abbrev pub ListSays : List ℕ → List ℕ → List ℕ → Text → List ℕ → Type 0
+abbrev pub ListSays : List ℕ → List ℕ → List ℕ → Result ℕ WriteError → List ℕ → Type 0
 ListSays img list lent r out = verdict img ≡ Accepted → Answers img list lent r out
 
-pub record FieldsSay (img list lent : List ℕ) (r : Text) (out : List ℕ) : Type 0 where
+pub record FieldsSay (img list lent : List ℕ) (r : Result ℕ WriteError) (out : List ℕ) : Type 0 where
   pub says : ListSays img list lent r out

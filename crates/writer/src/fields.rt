@@ -4,7 +4,7 @@ ghost use Rattle.rules.specs.Image.{most_fields};
 ghost use Rattle.rules.proofs.GoodFacts.{Sized, Good};
 ghost use Rattle.writer.specs.Answer.{SameCodes, FieldsSay};
 
-use crate::Text;
+use crate::WriteError;
 use crate::spelling::spell_out;
 use letters::classes::class_table;
 
@@ -30,7 +30,7 @@ fn same_codes(img: &[u8], codes: &[usize; 16], count: usize) -> bool
 
 // No list: a0, a1, .. up to the most that there can be.
 #[tactic(auto, using(crate::proofs::Cited::fields_write_made_up_lemmas))]
-fn write_made_up(img: &[u8], list: &[u8], out: &mut [u8]) -> Text
+fn write_made_up(img: &[u8], list: &[u8], out: &mut [u8]) -> Result<usize, WriteError>
     requires good { Good img.now }
     requires list_value { list.now ≡ [] }
     ensures { FieldsSay img.now list.now out.old result out.new }
@@ -47,7 +47,7 @@ fn write_made_up(img: &[u8], list: &[u8], out: &mut [u8]) -> Text
 }
 
 #[tactic(auto, using(crate::proofs::AnswerLaws::rows_few, crate::proofs::Cited::fields_write_listed_lemmas))]
-pub fn write_listed(img: &[u8], list: &[u8], out: &mut [u8]) -> Text
+pub fn write_listed(img: &[u8], list: &[u8], out: &mut [u8]) -> Result<usize, WriteError>
     requires { Good img.now }
     ensures { FieldsSay img.now list.now out.old result out.new }
 {
@@ -58,12 +58,12 @@ pub fn write_listed(img: &[u8], list: &[u8], out: &mut [u8]) -> Text
     let r = fieldlist::rows(&k, list);
     let why = r.why;
     if why != 0 {
-        return Text::Refused(31);
+        return Err(WriteError::BadList);
     }
     let codes = r.codes;
     let count = r.count;
     if !same_codes(img, &codes, count) {
-        return Text::Refused(32);
+        return Err(WriteError::OtherCodes);
     }
     let from = r.from;
     let to = r.to;

@@ -1,14 +1,13 @@
 // The whole text: counted with nothing lent, then written.
-ghost use Rattle.std.specs.Prelude.{◌≡◌, ◌≤◌, length};
+ghost use Rattle.std.specs.Prelude.{◌≡◌, ◌≤◌, length, Ok};
 ghost use Rattle.rules.specs.Image.{fields_of};
 ghost use Rattle.rules.proofs.GoodFacts.{Good};
 ghost use Rattle.fieldlist.specs.Answer.{Spans};
 ghost use Rattle.writer.specs.Ends.{Ends};
 ghost use Rattle.writer.specs.Walk.{fields_for};
-ghost use Rattle.writer.specs.declared.Text.TheVariants.{Bytes};
 ghost use Rattle.writer.specs.Answer.{text_of, Spelling, Counted, at_of};
 
-use crate::Text;
+use crate::WriteError;
 use crate::ends::mark_ends;
 use crate::walk::put_node;
 use pen::Pen;
@@ -64,7 +63,7 @@ fn put_text(
     requires good { Good img.now × Ends img.now ends.now }
     requires spans { Spans list.now from.now to.now (fields_of img.now) }
     requires to_in_bounds { length (text_of img.now (fields_for img.now list.now from.now to.now)) ≤ length out.old }
-    ensures { Spelling img.now (fields_for img.now list.now from.now to.now) out.old (Bytes result) out.new }
+    ensures { Spelling img.now (fields_for img.now list.now from.now to.now) out.old (Ok result) out.new }
 {
     let root = image::nodes(img) - 1;
     let most = out.len();
@@ -90,7 +89,7 @@ pub fn spell_out(
     from: &[usize; 16],
     to: &[usize; 16],
     out: &mut [u8],
-) -> Text
+) -> Result<usize, WriteError>
     requires good { Good img.now }
     requires spans { Spans list.now from.now to.now (fields_of img.now) }
     ensures { Spelling img.now (fields_for img.now list.now from.now to.now) out.old result out.new }
@@ -99,10 +98,10 @@ pub fn spell_out(
     mark_ends(img, &mut ends);
     let p = count_text(img, &ends, list, from, to, out.len());
     match p {
-        Pen::Over => Text::Refused(33),
+        Pen::Over => Err(WriteError::TooShort),
         Pen::At(_, _) => {
             let n = put_text(img, &ends, list, from, to, out);
-            Text::Bytes(n)
+            Ok(n)
         }
     }
 }
