@@ -13,7 +13,6 @@ ghost use Rattle.checklaws.specs.Hands.{Formed, stray_at};
 ghost use Rattle.rules.proofs.StrayRows.{stray_word, grow_word};
 ghost use Rattle.checklaws.specs.Bits.{bit, Adds, Shows, NameFits, given, given_all, Shown, Roomy, Fresh, Visited};
 
-use image::Shape;
 use rules::{Node, Role, Row, Verdict};
 
 // The visible names of a node: bit x of lo is name x, bit x of hi is name 64 + x.
@@ -153,11 +152,9 @@ fn visit(img: &[u8], lo: &mut [u64], hi: &mut [u64], n: usize) -> bool
     ensures { (visible : Names) → Shown visible img.now (n + 1) lo.old hi.old → (result ≡ stray_at visible img.now n) × Shown visible img.now n lo.new hi.new }
 {
     let x = image::read(img, n);
-    let tag = x.tag;
-    let shape = image::operands(tag);
-    match shape {
-        Shape::NoTag => false,
-        Shape::Words(r) => visit_words(lo, hi, n, x, r),
+    match image::operands(x.tag) {
+        None => false,
+        Some(r) => visit_words(lo, hi, n, x, r),
     }
 }
 

@@ -9,11 +9,10 @@ ghost use Rattle.std.specs.Prelude.{◌≡◌, ◌&&◌, ◌<◌};
 ghost use Rattle.rules.specs.Image.{nodes_of};
 ghost use Rattle.rules.specs.Refusals.{blank, is_kind};
 ghost use Rattle.rules.proofs.GoodFacts.{Sized};
-ghost use Rattle.image.specs.Tags.{kind_is};
+ghost use Rattle.laws.specs.Options.{math_option};
 ghost use Rattle.checklaws.specs.Pieces.{refusal, node_rules, place_says, rules_say, kind_index};
 ghost use Rattle.nodecheck.specs.Rows.{misfit};
 
-use image::{Shape, Sort};
 use rules::{Kind, Node, Role, Row, Verdict};
 
 // 6: a word that the tag's row doesn't list is zero.
@@ -55,12 +54,12 @@ fn kind_index(k: Kind) -> u32
 
 // Is it a kind, and this one?
 #[tactic(auto, using(checklaws::proofs::Words::same_kind_lem), unfolding(rules::specs::Refusals::is_kind))]
-pub fn is_kind(k: Kind, s: Sort) -> bool
-    ensures { result ≡ is_kind k (kind_is s) }
+pub fn is_kind(k: Kind, s: Option<Kind>) -> bool
+    ensures { result ≡ is_kind k (math_option s) }
 {
     match s {
-        Sort::Nothing => false,
-        Sort::Of(j) => kind_index(k) == kind_index(j),
+        None => false,
+        Some(j) => kind_index(k) == kind_index(j),
     }
 }
 
@@ -86,11 +85,9 @@ fn node_reason(img: &[u8], n: usize) -> u32
     if rows::fits(img, n, x) {
         return 0;
     }
-    let tag = x.tag;
-    let shape = image::operands(tag);
-    match shape {
-        Shape::NoTag => 5,
-        Shape::Words(r) => words_reason(x, r),
+    match image::operands(x.tag) {
+        None => 5,
+        Some(r) => words_reason(x, r),
     }
 }
 

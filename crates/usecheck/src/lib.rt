@@ -9,7 +9,6 @@ ghost use Rattle.rules.proofs.GoodFacts.{Sized};
 ghost use Rattle.checklaws.specs.Pieces.{refusal, use_rules, place_says, rules_say};
 ghost use Rattle.checklaws.specs.Counts.{Most, Ticks, TicksAll, Counts};
 
-use image::Shape;
 use rules::{Kind, Node, Role, Row, Verdict};
 
 // A count may grow by one where all are at most 65,534, one less than the largest number of 16 bits.
@@ -56,11 +55,9 @@ fn count_node(img: &[u8], t: &mut [u16], n: usize)
     ensures { Counts img.now (n + 1) t.new }
 {
     let x = image::read(img, n);
-    let tag = x.tag;
-    let shape = image::operands(tag);
-    match shape {
-        Shape::NoTag => {}
-        Shape::Words(r) => tick_words(t, x, r),
+    match image::operands(x.tag) {
+        None => {}
+        Some(r) => tick_words(t, x, r),
     }
 }
 
