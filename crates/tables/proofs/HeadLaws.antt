@@ -48,11 +48,9 @@ code-more img₀ img img' codes i w h a b c =
 
 -- ---- both
 
-pub head-is : (img img' img'' codes : List ℕ) (f m n : ℕ) → f ≤ length codes
-    → img' ≡ sets img 0 (laid bytes_of (10 ∷ f ∷ (10 + 2 * f) ∷ m ∷ n ∷ []))
-    → img'' ≡ sets img' 10 (laid bytes_of (take f codes))
-    → img'' ≡ sets img 0 (head_bytes (take f codes) m n)
+pub head-is : (img img' img'' codes : List ℕ) (m n : ℕ)
+    → img' ≡ sets img 0 (laid bytes_of (10 ∷ length codes ∷ (10 + 2 * length codes) ∷ m ∷ n ∷ []))
+    → img'' ≡ sets img' 10 (laid bytes_of codes)
+    → img'' ≡ sets img 0 (head_bytes codes m n)
 unfolding head_bytes flatten bytes_of
-head-is img img' img'' codes f m n h a b =
-    let l = length-take-le f codes h in
-    rw (b, a, l)
+head-is img img' img'' codes m n a b = rw (b, a)

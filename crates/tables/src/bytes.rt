@@ -6,6 +6,7 @@ ghost use Rattle.rules.proofs.Table.{Small};
 
 use rules::Node;
 
+/// The word `w`, below 65,536, at byte `at` and the one behind it.
 #[tactic(auto, unfolding(rules::specs::Published::bytes_of))]
 pub fn put_word(img: &mut [u8], at: usize, w: usize)
     requires { (at + 1 < length img.old) × (w < 65536) }
@@ -15,6 +16,7 @@ pub fn put_word(img: &mut [u8], at: usize, w: usize)
     img[at + 1] = (w / 256) as u8;
 }
 
+/// The four words of a node, its tag first, from byte `at` on.
 #[tactic(auto, using(crate::proofs::Cited::bytes_put_words_lemmas))]
 pub fn put_words(img: &mut [u8], at: usize, x: Node)
     requires at_in_bounds { at + 8 ≤ length img.old }

@@ -1,5 +1,5 @@
 // The head of an image: its contents and its codes. It may be written last, when the numbers of nodes and names are known.
-ghost use Rattle.std.specs.Prelude.{◌≡◌, ◌+◌, ◌*◌, ◌<◌, ◌≤◌, length, take};
+ghost use Rattle.std.specs.Prelude.{◌≡◌, ◌+◌, ◌*◌, ◌<◌, ◌≤◌, length};
 ghost use mathlib.Core.List.{[], ◌∷◌, flatten, map};
 ghost use Rattle.std.proofs.lemmas.List.Edits.{sets};
 ghost use Rattle.rules.specs.Published.{bytes_of};
@@ -20,24 +20,23 @@ fn put_contents(img: &mut [u8], f: usize, m: usize, n: usize)
     bytes::put_word(img, 8, n);
 }
 
+// The codes behind the contents, a word each.
 #[tactic(auto, using(crate::proofs::Cited::head_put_codes_lemmas))]
-fn put_codes(img: &mut [u8], codes: &[u16], f: usize)
-    requires { (f ≤ length codes.now) × (10 + 2 * f ≤ length img.old) }
-    ensures { img.new ≡ sets img.old 10 (flatten (map bytes_of (take f codes.now))) }
+fn put_codes(img: &mut [u8], codes: &[u16])
+    requires { 10 + 2 * length codes.now ≤ length img.old }
+    ensures { img.new ≡ sets img.old 10 (flatten (map bytes_of codes.now)) }
 {
-    let mut i: usize = 0;
-    while i < f {
-        bytes::put_word(img, 10 + 2 * i, codes[i] as usize);
-        i += 1;
+    for (i, code) in codes.iter().enumerate() {
+        bytes::put_word(img, 10 + 2 * i, usize::from(*code));
     }
 }
 
-// The first f codes, m nodes, n names.
+/// The head of an image with these codes, `nodes` nodes and `names` names.
 #[tactic(auto, using(crate::proofs::Cited::head_put_head_lemmas))]
-pub fn put_head(img: &mut [u8], codes: &[u16], f: usize, m: usize, n: usize)
-    requires { (f ≤ length codes.now) × (10 + 2 * f ≤ length img.old) × (f ≤ 16) × (m < 65536) × (n < 65536) }
-    ensures { img.new ≡ sets img.old 0 (head_bytes (take f codes.now) m n) }
+pub fn put_head(img: &mut [u8], codes: &[u16], nodes: usize, names: usize)
+    requires { (10 + 2 * length codes.now ≤ length img.old) × (length codes.now ≤ 16) × (nodes < 65536) × (names < 65536) }
+    ensures { img.new ≡ sets img.old 0 (head_bytes codes.now nodes names) }
 {
-    put_contents(img, f, m, n);
-    put_codes(img, codes, f);
+    put_contents(img, codes.len(), nodes, names);
+    put_codes(img, codes);
 }

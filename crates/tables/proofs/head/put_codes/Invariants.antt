@@ -1,5 +1,3 @@
-use Prim.Native.Nat.{◌-◌}
-use Prim.Native.Nat.{◌≤◌}
 use mathlib.Core.Path.{◌≡◌}
 use mathlib.Core.List.{flatten}
 use mathlib.Core.List.{map}
@@ -10,7 +8,4 @@ use Rattle.rules.specs.Published.{bytes_of}
 use Rattle.tables.proofs.head.put_codes.Given as goal
 
 abbrev pub invariant-loop-i : goal.invariant-loop-i
-invariant-loop-i l = (l.i ≤ l.f) × (length l.img ≡ length l.initial.img) × (l.img ≡ sets l.initial.img 10 (flatten (map bytes_of (take l.i l.codes))))
-
-abbrev pub decreases-loop-i : goal.decreases-loop-i
-decreases-loop-i l = l.f - l.i
+invariant-loop-i l = (length l.img ≡ length l.initial.img) × (l.img ≡ sets l.initial.img 10 (flatten (map bytes_of (take l.i l.codes))))
