@@ -79,7 +79,7 @@ pub fn put_image(
     requires f_le_most_fields { (f ≤ most_fields) × (nodes ≤ most_nodes) × (names ≤ most_names) }
     ensures { Out f nodes names result codes.now img.old out.old out.new }
 {
-    tables::head::put_head(img, codes, f, nodes, names);
+    tables::head::put_head(img, &codes[..f], nodes, names);
     let n = 10 + 2 * f + 8 * nodes;
     build::copy(img, out, n);
     n

@@ -2,7 +2,7 @@
 -- of crates/reader/specs); what is promised holds of whatever satisfies it, and `read` has no `requires`: nothing is asked of the caller. `Reads` and `Refuses`
 -- (the module Reads of crates/grammar/specs) say which image a text and a list stand for, and which refusal they get. The proofs are elsewhere. Assumes nothing.
 use Prim.Native.Nat.{ℕ, ◌≤◌}
-use mathlib.Core.Path.{◌≡◌, refl, sym, ap, subst, ◌∙◌}
+use mathlib.Core.Path.{◌≡◌, sym, ap, subst, ◌∙◌}
 use mathlib.Core.Bool.{true}
 use mathlib.Core.Logic.{◌↔◌, ◌⊎◌, inl, inr}
 use mathlib.Core.List.{List, [], ◌∷◌, map, ◌++◌}
@@ -30,8 +30,8 @@ use Rattle.writing.specs.WriteTokens.{write_cmd, parentheses}
 use Rattle.writing.specs.Spell.{VariableName, Each, list_of}
 use Rattle.writing.specs.Renumber.{names_written, by_appearance}
 use Rattle.writing.specs.Back.{tree_of, codes_of, text_of, image_of, made_up_fields, made_up_names}
-use Rattle.reader.specs.declared.Reading.{Reading}
-use Rattle.reader.specs.declared.Reading.TheVariants.{Image, Refused}
+use Rattle.std.specs.Prelude.{Result, Ok, Err}
+use Rattle.reader.specs.declared.ReadError.{ReadError}
 use Rattle.reader.specs.Says.{ReadSays, cleared, words_after}
 use Rattle.grammar.proofs.TableRight.{Judged, is-accepted, is-undeclared}
 use Rattle.grammar.proofs.ReadChecks as ReadChecks
@@ -56,63 +56,66 @@ an-answer out work list text = go (answered out work list text)
     go (an-image {img} r) = inl (img, r)
     go (a-refusal {k} {l} r) = inr (k, l, r)
 
+same-error : (e f : ReadError) → e.number ≡ f.number → e.line ≡ f.line → e ≡ f
+same-error e f same line = ap (λ (k : ℕ). record { number = k; line = e.line }) same ∙ ap (λ (l : ℕ). record { number = f.number; line = l }) line
+
 -- two results that satisfy the contract are equal: the answer, every lent word and every byte of the output
-pub read-decides : (list text ws out : List ℕ) (r q : Reading) (us vs outr outq : List ℕ)
+pub read-decides : (list text ws out : List ℕ) (r q : Result ℕ ReadError) (us vs outr outq : List ℕ)
     → ReadSays list text r ws out us outr → ReadSays list text q ws out vs outq → (r ≡ q) × (us ≡ vs) × (outr ≡ outq)
-read-decides list text ws out (Image n) (Image m) us vs outr outq a b =
+read-decides list text ws out (Ok n) (Ok m) us vs outr outq a b =
     let i : a.img ≡ b.img = one-image a.reads b.reads in
     let e : n ≡ m = a.long ∙ ap length i ∙ sym b.long in
-    (ap Image e, a.words ∙ sym b.words, a.output ∙ rw (i, e) (sym b.output))
-read-decides list text ws out (Image n) (Refused j m) us vs outr outq a b = absurd (image-or-refusal a.reads b.refuses)
-read-decides list text ws out (Refused k l) (Image m) us vs outr outq a b = absurd (image-or-refusal b.reads a.refuses)
-read-decides list text ws out (Refused k l) (Refused j m) us vs outr outq a b =
-    let e = refused-one a.refuses b.refuses in
-    let same : k ≡ j = e.0 in
-    let line : l ≡ m = e.1 in
-    (rw (same, line) refl, a.words ∙ rw same (sym b.words), a.output ∙ sym b.output)
+    (ap Ok e, a.words ∙ sym b.words, a.output ∙ rw (i, e) (sym b.output))
+read-decides list text ws out (Ok n) (Err f) us vs outr outq a b = absurd (image-or-refusal a.reads b.refuses)
+read-decides list text ws out (Err e) (Ok m) us vs outr outq a b = absurd (image-or-refusal b.reads a.refuses)
+read-decides list text ws out (Err e) (Err f) us vs outr outq a b =
+    let one = refused-one a.refuses b.refuses in
+    let same : e.number ≡ f.number = one.0 in
+    let line : e.line ≡ f.line = one.1 in
+    (ap Err (same-error e f same line), a.words ∙ rw same (sym b.words), a.output ∙ sym b.output)
 
 -- ======== what is accepted, what is refused
 
 -- the contract, told by what the text and the list are
-pub record Image-is (list text ws out : List ℕ) (r : Reading) (ws' out' img : List ℕ) : Type 0 where
-  pub answer : r ≡ Image (length img)
+pub record Image-is (list text ws out : List ℕ) (r : Result ℕ ReadError) (ws' out' img : List ℕ) : Type 0 where
+  pub answer : r ≡ Ok (length img)
   pub output : out' ≡ img ++ drop (length img) out
   pub words : ws' ≡ cleared text ws
 
-pub record Refusal-is (list text ws out : List ℕ) (r : Reading) (ws' out' : List ℕ) (k l : ℕ) : Type 0 where
-  pub answer : r ≡ Refused k l
+pub record Refusal-is (list text ws out : List ℕ) (r : Result ℕ ReadError) (ws' out' : List ℕ) (k l : ℕ) : Type 0 where
+  pub answer : r ≡ Err (record { number = k; line = l })
   pub output : out' ≡ out
   pub words : ws' ≡ words_after k text ws
 
 module _ (list text ws out ws' out' : List ℕ) where
   -- "Exactly that grammar's texts are accepted": an image that a text and a list stand for is the answer, its bytes are written, and no other
-  pub image-if : (r : Reading) → ReadSays list text r ws out ws' out'
+  pub image-if : (r : Result ℕ ReadError) → ReadSays list text r ws out ws' out'
       → (img : List ℕ) → Reads (length out) (length ws) list text img → Image-is list text ws out r ws' out' img
-  image-if (Image n) a img h =
+  image-if (Ok n) a img h =
       let i : a.img ≡ img = one-image a.reads h in
       let e : n ≡ length img = a.long ∙ ap length i in
-      record { answer = ap Image e; output = a.output ∙ rw (i, e); words = a.words }
-  image-if (Refused k l) a img h = absurd (image-or-refusal h a.refuses)
+      record { answer = ap Ok e; output = a.output ∙ rw (i, e); words = a.words }
+  image-if (Err e) a img h = absurd (image-or-refusal h a.refuses)
 
   -- .. and no other is
-  pub image-only : (r : Reading) → ReadSays list text r ws out ws' out'
-      → (n : ℕ) → r ≡ Image n → (img : List ℕ) × Reads (length out) (length ws) list text img × (n ≡ length img)
+  pub image-only : (r : Result ℕ ReadError) → ReadSays list text r ws out ws' out'
+      → (n : ℕ) → r ≡ Ok n → (img : List ℕ) × Reads (length out) (length ws) list text img × (n ≡ length img)
   image-only r a n e =
       let b = subst (λ q. ReadSays list text q ws out ws' out') e a in
       (b.img, b.reads, b.long)
 
   -- "Refusals": the number and the line, exactly where its sentence holds; "A refusal writes nothing"
-  pub refusal-if : (r : Reading) → ReadSays list text r ws out ws' out'
+  pub refusal-if : (r : Result ℕ ReadError) → ReadSays list text r ws out ws' out'
       → (k l : ℕ) → Refuses (length out) (length ws) list text k l → Refusal-is list text ws out r ws' out' k l
-  refusal-if (Image n) a k l h = absurd (image-or-refusal a.reads h)
-  refusal-if (Refused j m) a k l h =
-      let e = refused-one a.refuses h in
-      let same : j ≡ k = e.0 in
-      let line : m ≡ l = e.1 in
-      record { answer = rw (same, line) refl; output = a.output; words = rw same at a.words }
+  refusal-if (Ok n) a k l h = absurd (image-or-refusal a.reads h)
+  refusal-if (Err e) a k l h =
+      let one = refused-one a.refuses h in
+      let same : e.number ≡ k = one.0 in
+      let line : e.line ≡ l = one.1 in
+      record { answer = ap Err (same-error e (record { number = k; line = l }) same line); output = a.output; words = rw same at a.words }
 
-  pub refusal-only : (r : Reading) → ReadSays list text r ws out ws' out'
-      → (k l : ℕ) → r ≡ Refused k l → Refuses (length out) (length ws) list text k l
+  pub refusal-only : (r : Result ℕ ReadError) → ReadSays list text r ws out ws' out'
+      → (k l : ℕ) → r ≡ Err (record { number = k; line = l }) → Refuses (length out) (length ws) list text k l
   refusal-only r a k l e =
       let b = subst (λ q. ReadSays list text q ws out ws' out') e a in
       b.refuses

@@ -16,8 +16,8 @@ use Rattle.fieldlist.specs.declared.FieldRows.{FieldRows}
 use Rattle.fieldlist.specs.Answer.{entries_of, RightRows, Answers}
 use Rattle.fieldlist.proofs.Uses.{is-wrong}
 use Rattle.tables.specs.Tabled.{Tabled}
-use Rattle.reader.specs.declared.Reading.{Reading}
-use Rattle.reader.specs.declared.Reading.TheVariants.{Image, Refused}
+use Rattle.std.specs.Prelude.{Result, Ok, Err}
+use Rattle.reader.specs.declared.ReadError.{ReadError}
 use Rattle.reader.specs.declared.text.Ending.{Ending}
 use Rattle.building.specs.Finish.{Out}
 use Rattle.reader.specs.Under.{Lasting}
@@ -121,13 +121,13 @@ late (at-a-place after s r (too-many-names g e h)) = refl
 late (early-end s r h) = refl
 late (too-many-nodes s v t h) = refl
 
-pub says-listed : (list text : List ℕ) (rows : FieldRows) (r : Reading) (ws out ws' out' : List ℕ)
+pub says-listed : (list text : List ℕ) (rows : FieldRows) (r : Result ℕ ReadError) (ws out ws' out' : List ℕ)
     → RightRows list rows
     → Lent (length out) (length ws) text
     → Listens list text rows r ws out ws' out'
     → ReadSays list text r ws out ws' out'
 unfolding words_after
-says-listed list text rows (Image n) ws out ws' out' right lent h =
+says-listed list text rows (Ok n) ws out ws' out' right lent h =
     record {
       img = h.img;
       reads = record { lent = lent; fields = entries_of list rows; listed = right.listed; read = h.read };
@@ -135,7 +135,7 @@ says-listed list text rows (Image n) ws out ws' out' right lent h =
       output = h.output;
       words = h.words;
     }
-says-listed list text rows (Refused k l) ws out ws' out' right lent h =
+says-listed list text rows (Err e) ws out ws' out' right lent h =
     record {
       refuses = bad-text lent right.listed h.refused;
       output = h.output;

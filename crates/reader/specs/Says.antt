@@ -1,6 +1,6 @@
 -- What the reader answers: the image's bytes and no other, or the number and the line of a refusal, which leaves every byte of the output; and what the lent words
 -- hold afterwards. Assumes nothing.
-use Rattle.std.specs.Prelude.{ℕ, zero, suc, ◌<◌, ◌≤◌, ◌≡◌, cond, List, [], ◌∷◌, ◌++◌, map, length, drop, replicate}
+use Rattle.std.specs.Prelude.{ℕ, zero, suc, ◌<◌, ◌≤◌, ◌≡◌, cond, Result, Ok, Err, List, [], ◌∷◌, ◌++◌, map, length, drop, replicate}
 use Rattle.rules.specs.Image.{most_nodes, most_names}
 use Rattle.rules.specs.Published.{image}
 use Rattle.grammar.specs.Classes.{among}
@@ -18,8 +18,7 @@ use Rattle.tables.specs.Tabled.{Tabled}
 use Rattle.dues.specs.Stack.{Stacked}
 use Rattle.letters.specs.Upto.{piece_at, Upto}
 use Rattle.reader.specs.Under.{Lasting}
-use Rattle.reader.specs.declared.Reading.{Reading}
-use Rattle.reader.specs.declared.Reading.TheVariants.{Image, Refused}
+use Rattle.reader.specs.declared.ReadError.{ReadError}
 use Rattle.reader.specs.declared.text.Ending.{Ending}
 
 -- ---- a text, with a list that is right
@@ -76,9 +75,9 @@ pub record Withheld (list text : List ℕ) (rows : FieldRows) (k l : ℕ) (ws ou
   pub output : out' ≡ out
   pub words : ws' ≡ cleared text ws
 
-abbrev pub Listens : List ℕ → List ℕ → FieldRows → Reading → List ℕ → List ℕ → List ℕ → List ℕ → Type 0
-Listens list text rows (Image n) ws out ws' out' = Handed list text rows n ws out ws' out'
-Listens list text rows (Refused k l) ws out ws' out' = Withheld list text rows k l ws out ws' out'
+abbrev pub Listens : List ℕ → List ℕ → FieldRows → Result ℕ ReadError → List ℕ → List ℕ → List ℕ → List ℕ → Type 0
+Listens list text rows (Ok n) ws out ws' out' = Handed list text rows n ws out ws' out'
+Listens list text rows (Err e) ws out ws' out' = Withheld list text rows e.number e.line ws out ws' out'
 
 -- 20, 28 and 21 touch no word
 unfoldable pub early : List ℕ
@@ -101,6 +100,6 @@ pub record Denies (list text : List ℕ) (k l : ℕ) (ws out ws' out' : List ℕ
   pub output : out' ≡ out
   pub words : ws' ≡ words_after k text ws
 
-abbrev pub ReadSays : List ℕ → List ℕ → Reading → List ℕ → List ℕ → List ℕ → List ℕ → Type 0
-ReadSays list text (Image n) ws out ws' out' = Accepts list text n ws out ws' out'
-ReadSays list text (Refused k l) ws out ws' out' = Denies list text k l ws out ws' out'
+abbrev pub ReadSays : List ℕ → List ℕ → Result ℕ ReadError → List ℕ → List ℕ → List ℕ → List ℕ → Type 0
+ReadSays list text (Ok n) ws out ws' out' = Accepts list text n ws out ws' out'
+ReadSays list text (Err e) ws out ws' out' = Denies list text e.number e.line ws out ws' out'

@@ -19,24 +19,18 @@ use letters::classes;
 
 const MOST_BYTES: usize = 16426;
 
-// The length of the image; or the number and the line of a refusal.
-#[derive(Clone, Copy)]
-pub enum Reading {
-    Image(usize),
-    Refused(u32, usize),
+/// Why a written script is refused: the number of what is wrong, 20 to 28, and its line from 1 on; line 0 where no line of the text is the reason.
+#[derive(Clone, Copy, Debug, PartialEq, Eq)]
+pub struct ReadError {
+    pub number: u32,
+    pub line: usize,
 }
 
 // Whether these are too few words for a text of so many bytes: fewer than 3 * bytes + 4, which may be more than a number here can say.
 fn too_few(words: usize, bytes: usize) -> bool
     ensures { result ≡ ltb words (words_for bytes) }
 {
-    if words < 4 {
-        return true;
-    }
-    if (words - 4) / 3 < bytes {
-        return true;
-    }
-    false
+    words < 4 || (words - 4) / 3 < bytes
 }
 
 // A text, with a list that is right and enough of all that is lent.
@@ -47,7 +41,7 @@ fn read_listed(
     rows: FieldRows,
     work: &mut [u32],
     out: &mut [u8],
-) -> Reading
+) -> Result<usize, ReadError>
     requires k_value { k.now ≡ classes }
     requires right_rows { RightRows list.now rows }
     requires text_in_bounds { (words_for (length text.now) ≤ length work.old) × (most_bytes ≤ length out.old) }
@@ -62,29 +56,50 @@ fn read_listed(
     let why = e.why;
     build::clear(work, 3 * text.len() + 4);
     if why != 0 {
-        return Reading::Refused(why, e.line);
+        return Err(ReadError {
+            number: why,
+            line: e.line,
+        });
     }
     let listed = rows.codes;
     let codes = finish::narrow(&listed);
     let n = finish::put_image(&mut img, &codes, count, e.nodes, e.names, out);
-    Reading::Image(n)
+    Ok(n)
 }
 
-// A written script. The lengths of what is lent are looked at first (20, 28), then the list (21), then the text.
-pub fn read(text: &[u8], list: &[u8], work: &mut [u32], out: &mut [u8]) -> Reading
+// What no line of the text is the reason of.
+const SHORT_OUTPUT: ReadError = ReadError {
+    number: 20,
+    line: 0,
+};
+
+const BAD_LIST: ReadError = ReadError {
+    number: 21,
+    line: 0,
+};
+
+const SHORT_WORK: ReadError = ReadError {
+    number: 28,
+    line: 0,
+};
+
+/// Reads a written script: the length of its image, which stands in the first bytes of `out` then. `work` has three words for each byte of the text and
+/// four at least, and `out` 16,426 bytes; these lengths are looked at first (28, 20), then the list of fields (21), then the text. A refusal
+/// leaves `out` as it was.
+pub fn read(text: &[u8], list: &[u8], work: &mut [u32], out: &mut [u8]) -> Result<usize, ReadError>
     ensures { ReadSays list.now text.now result work.old out.old work.new out.new }
 {
     if out.len() < MOST_BYTES {
-        return Reading::Refused(20, 0);
+        return Err(SHORT_OUTPUT);
     }
     if too_few(work.len(), text.len()) {
-        return Reading::Refused(28, 0);
+        return Err(SHORT_WORK);
     }
     let k = classes::class_table();
     let rows = fieldlist::rows(&k, list);
     let why = rows.why;
     if why != 0 {
-        return Reading::Refused(21, 0);
+        return Err(BAD_LIST);
     }
     read_listed(&k, text, list, rows, work, out)
 }
