@@ -15,9 +15,8 @@ use Rattle.rules.specs.declared.Node.{Node}
 use Rattle.rules.specs.Image.{row_of}
 use Rattle.rules.specs.Published.{node_bytes}
 use Rattle.rules.proofs.Table.{Small}
-use Rattle.image.specs.declared.Shape.{Shape}
-use Rattle.image.specs.declared.Shape.TheVariants.{NoTag, Words}
-use Rattle.image.specs.Tags.{row_is}
+use Rattle.std.specs.Prelude.{Option as Answered, Some, None}
+use Rattle.laws.specs.Options.{math_option}
 use Rattle.grammar.specs.Nodes.{words}
 use Rattle.reading.specs.Links.{word_by, back, linked_by, linked, first_by, first_of}
 use Rattle.tables.specs.Puts.{Falling, Joined, Puts}
@@ -56,16 +55,16 @@ by_row m tag value firsts w a b c e f first hc he hb hf ha hs =
     }
 
 -- no tag: a node that nothing reads
-pub no_row : (m tag value : ℕ) (firsts : List ℕ) (o : Option Row) (s : Shape) → s ≡ NoTag → row_is s ≡ o
+pub no_row : (m tag value : ℕ) (firsts : List ℕ) (o : Option Row) (r : Answered Row) → r ≡ None → math_option r ≡ o
     → Joined m tag value firsts o (record { tag = tag; a = 0; b = 0; c = 0 }) m
 unfolding linked_by first_by words
-no_row m tag value firsts o s h e =
-    let z : o ≡ none = sym e ∙ ap row_is h in
+no_row m tag value firsts o r h e =
+    let z : o ≡ none = sym e ∙ ap math_option h in
     record { node = rw z; starts = rw z; low = omega arith; small-a = omega arith; small_b = omega arith; small-c = omega arith }
 
-pub its-row : (m tag value : ℕ) (firsts : List ℕ) (o : Option Row) (s : Shape) (w : Row) (x : Node) (first : ℕ) → s ≡ Words w → row_is s ≡ o
+pub its-row : (m tag value : ℕ) (firsts : List ℕ) (o : Option Row) (r : Answered Row) (w : Row) (x : Node) (first : ℕ) → r ≡ Some w → math_option r ≡ o
     → Joined m tag value firsts (some w) x first → Joined m tag value firsts o x first
-its-row m tag value firsts o s w x first h e j = let z : some w ≡ o = sym (ap row_is h) ∙ e in rw (← z) j
+its-row m tag value firsts o r w x first h e j = let z : some w ≡ o = sym (ap math_option h) ∙ e in rw (← z) j
 
 -- ---- written
 

@@ -6,7 +6,6 @@ ghost use Rattle.reading.specs.Links.{word_by, back};
 ghost use Rattle.tables.specs.Puts.{Falling, Joined, Puts};
 
 use crate::bytes;
-use image::Shape;
 use rules::{Node, Role, Row};
 
 // A word, of its half of the value; a child is the last of the nodes that are left, which end at e. Items of a tree never ask it of 0;
@@ -76,7 +75,7 @@ fn of_item(firsts: &[u16], m: usize, tag: usize, value: u32) -> Linked
     ensures { Joined m tag value firsts.now (row_of tag) result.node result.first }
 {
     match image::operands(tag) {
-        Shape::NoTag => Linked {
+        None => Linked {
             node: Node {
                 tag,
                 a: 0,
@@ -85,7 +84,7 @@ fn of_item(firsts: &[u16], m: usize, tag: usize, value: u32) -> Linked
             },
             first: m,
         },
-        Shape::Words(row) => by_row(firsts, m, tag, value, row),
+        Some(row) => by_row(firsts, m, tag, value, row),
     }
 }
 

@@ -3,5 +3,5 @@ use borrow.Author.Rules.{rules}
 use Rattle.tables.proofs.NodeLaws.{no_row}
 use Rattle.tables.proofs.nodes.of_item.Goals as goal
 
-pub returns-in-NoTag : goal.returns-in-NoTag
-returns-in-NoTag c = search (rules, no_row)
+pub returns-in-None : goal.returns-in-None
+returns-in-None c = search (rules, no_row)
