@@ -1,7 +1,6 @@
 // The way past blanks: lines are counted by byte 10, and the reader is moved to the first byte that is no blank, or to the end.
 ghost use Rattle.std.specs.Prelude.{◌≡◌, ◌+◌, ◌≤◌, ◌<◌, length};
 ghost use Rattle.grammar.specs.Places.{line_after};
-ghost use Rattle.letters.specs.Table.{classes};
 ghost use Rattle.letters.specs.Past.{past};
 
 use crate::classes::class_of;
@@ -27,15 +26,15 @@ fn line_after(b: u8, line: usize) -> usize
     line
 }
 
-fn past_from(k: &[u8; 256], s: &[u8], at: usize, line: usize) -> Cursor
-    requires { (k.now ≡ classes) × (at ≤ length s.now) × (line ≤ at + 1) }
+fn past_from(s: &[u8], at: usize, line: usize) -> Cursor
+    requires { (at ≤ length s.now) × (line ≤ at + 1) }
     ensures { result ≡ past s.now at line }
 {
     let mut i = at;
     let mut n = line;
     while i < s.len() {
         let b = s[i];
-        if class_of(k, b) != BLANK {
+        if class_of(b) != BLANK {
             return Cursor { at: i, line: n };
         }
         n = line_after(b, n);
@@ -45,19 +44,19 @@ fn past_from(k: &[u8; 256], s: &[u8], at: usize, line: usize) -> Cursor
 }
 
 // the reader is moved past blanks, counting lines as it goes
-pub fn past_blanks(c: &mut Cursor, k: &[u8; 256], s: &[u8])
-    requires { (k.now ≡ classes) × (c.old.at ≤ length s.now) × (c.old.line ≤ c.old.at + 1) }
+pub fn past_blanks(c: &mut Cursor, s: &[u8])
+    requires { (c.old.at ≤ length s.now) × (c.old.line ≤ c.old.at + 1) }
     ensures { c.new ≡ past s.now c.old.at c.old.line }
 {
-    *c = past_from(k, s, c.at, c.line);
+    *c = past_from(s, c.at, c.line);
 }
 
 // the same from a byte and its line: whoever calls this one sees no reference to a cursor
-pub fn place_after(k: &[u8; 256], s: &[u8], at: usize, line: usize) -> Cursor
-    requires { (k.now ≡ classes) × (at ≤ length s.now) × (line ≤ at + 1) }
+pub fn place_after(s: &[u8], at: usize, line: usize) -> Cursor
+    requires { (at ≤ length s.now) × (line ≤ at + 1) }
     ensures { result ≡ past s.now at line }
 {
     let mut c = Cursor { at, line };
-    past_blanks(&mut c, k, s);
+    past_blanks(&mut c, s);
     c
 }

@@ -4,7 +4,6 @@
 ghost use Rattle.std.specs.Prelude.{◌≡◌, cond, ◌+◌, ◌≤◌, ◌<◌, eqb, length};
 ghost use Rattle.std.proofs.Math.Seq.{slice};
 ghost use Rattle.grammar.specs.Tokens.{reserved};
-ghost use Rattle.letters.specs.Table.{classes};
 ghost use Rattle.letters.specs.Kinds.{Bytes, packed, numbered, word_kind, kind_or, minus_kind, symbol_kind, symbol_width};
 
 use crate::classes::class_of;
@@ -78,18 +77,16 @@ fn either(after: u8, b: u8, two: u32, one: u32) -> u32
     one
 }
 
-fn minus_before(k: &[u8; 256], after: u8) -> u32
-    requires { k.now ≡ classes }
+fn minus_before(after: u8) -> u32
     ensures { result ≡ minus_kind after }
 {
-    if class_of(k, after) == DIGIT {
+    if class_of(after) == DIGIT {
         return SIGN;
     }
     MINUS
 }
 
-pub fn kind_of_symbol(k: &[u8; 256], b: u8, after: u8) -> u32
-    requires { k.now ≡ classes }
+pub fn kind_of_symbol(b: u8, after: u8) -> u32
     ensures { result ≡ symbol_kind b after }
 {
     match b {
@@ -103,7 +100,7 @@ pub fn kind_of_symbol(k: &[u8; 256], b: u8, after: u8) -> u32
         58 => 27, // :
         61 => either(after, 61, 25, 24), // == or =
         124 => either(after, 124, 22, 28), // || or |
-        _ => minus_before(k, after),
+        _ => minus_before(after),
     }
 }
 

@@ -2,7 +2,6 @@
 // can. Each byte is looked at a bounded number of times: once as a blank or by its run, and at most six of a word once more for its kind.
 ghost use Rattle.std.specs.Prelude.{◌≡◌, ◌+◌, ◌≤◌, ◌<◌, length, get_or};
 ghost use Rattle.grammar.specs.Classes.{class_of, blank, upper, lower, digit, symbol};
-ghost use Rattle.letters.specs.Table.{classes};
 ghost use Rattle.letters.specs.Says.{Stands, NextSays};
 
 use crate::classes::class_of;
@@ -27,12 +26,11 @@ pub struct Place {
     pub line: usize,
 }
 
-fn name_at(k: &[u8; 256], text: &[u8], at: usize, line: usize) -> Place
-    requires k_value { k.now ≡ classes }
-    requires at_in_bounds { (at < length text.now) × (class_of (get_or text.now at 0) ≡ upper) }
+fn name_at(text: &[u8], at: usize, line: usize) -> Place
+    requires { (at < length text.now) × (class_of (get_or text.now at 0) ≡ upper) }
     ensures { Stands text.now at line result }
 {
-    let to = word_end(k, text, at + 1);
+    let to = word_end(text, at + 1);
     Place {
         kind: 1,
         from: at,
@@ -41,12 +39,11 @@ fn name_at(k: &[u8; 256], text: &[u8], at: usize, line: usize) -> Place
     }
 }
 
-fn lower_at(k: &[u8; 256], text: &[u8], at: usize, line: usize) -> Place
-    requires k_value { k.now ≡ classes }
-    requires at_in_bounds { (at < length text.now) × (class_of (get_or text.now at 0) ≡ lower) }
+fn lower_at(text: &[u8], at: usize, line: usize) -> Place
+    requires { (at < length text.now) × (class_of (get_or text.now at 0) ≡ lower) }
     ensures { Stands text.now at line result }
 {
-    let to = word_end(k, text, at + 1);
+    let to = word_end(text, at + 1);
     let kind = kind_of_word(text, at, to);
     Place {
         kind,
@@ -56,12 +53,11 @@ fn lower_at(k: &[u8; 256], text: &[u8], at: usize, line: usize) -> Place
     }
 }
 
-fn number_at(k: &[u8; 256], text: &[u8], at: usize, line: usize) -> Place
-    requires k_value { k.now ≡ classes }
-    requires at_in_bounds { (at < length text.now) × (class_of (get_or text.now at 0) ≡ digit) }
+fn number_at(text: &[u8], at: usize, line: usize) -> Place
+    requires { (at < length text.now) × (class_of (get_or text.now at 0) ≡ digit) }
     ensures { Stands text.now at line result }
 {
-    let to = number_end(k, text, at + 1);
+    let to = number_end(text, at + 1);
     Place {
         kind: 3,
         from: at,
@@ -80,14 +76,13 @@ fn byte_at(text: &[u8], at: usize) -> u8
     0
 }
 
-fn symbol_at(k: &[u8; 256], text: &[u8], at: usize, line: usize) -> Place
-    requires k_value { k.now ≡ classes }
-    requires at_in_bounds { (at < length text.now) × (class_of (get_or text.now at 0) ≡ symbol) }
+fn symbol_at(text: &[u8], at: usize, line: usize) -> Place
+    requires { (at < length text.now) × (class_of (get_or text.now at 0) ≡ symbol) }
     ensures { Stands text.now at line result }
 {
     let b = text[at];
     let after = byte_at(text, at + 1);
-    let kind = kind_of_symbol(k, b, after);
+    let kind = kind_of_symbol(b, after);
     let to = at + width_of_symbol(b, after);
     Place {
         kind,
@@ -97,17 +92,16 @@ fn symbol_at(k: &[u8; 256], text: &[u8], at: usize, line: usize) -> Place
     }
 }
 
-fn piece_at(k: &[u8; 256], text: &[u8], at: usize, line: usize) -> Place
-    requires k_value { k.now ≡ classes }
-    requires at_in_bounds { (at < length text.now) × (class_of (get_or text.now at 0) ≡ blank → ⊥) }
+fn piece_at(text: &[u8], at: usize, line: usize) -> Place
+    requires { (at < length text.now) × (class_of (get_or text.now at 0) ≡ blank → ⊥) }
     ensures { Stands text.now at line result }
 {
-    let class = class_of(k, text[at]);
+    let class = class_of(text[at]);
     match class {
-        UPPER => name_at(k, text, at, line),
-        LOWER => lower_at(k, text, at, line),
-        DIGIT => number_at(k, text, at, line),
-        SYMBOL => symbol_at(k, text, at, line),
+        UPPER => name_at(text, at, line),
+        LOWER => lower_at(text, at, line),
+        DIGIT => number_at(text, at, line),
+        SYMBOL => symbol_at(text, at, line),
         _ => Place {
             kind: 29,
             from: at,
@@ -117,16 +111,15 @@ fn piece_at(k: &[u8; 256], text: &[u8], at: usize, line: usize) -> Place
     }
 }
 
-pub fn next(k: &[u8; 256], text: &[u8], at: usize, line: usize) -> Place
-    requires k_value { k.now ≡ classes }
-    requires at_in_bounds { (at ≤ length text.now) × (line ≤ at + 1) }
+pub fn next(text: &[u8], at: usize, line: usize) -> Place
+    requires { (at ≤ length text.now) × (line ≤ at + 1) }
     ensures { NextSays text.now at line result }
 {
-    let c = place_after(k, text, at, line);
+    let c = place_after(text, at, line);
     let from = c.at;
     let on = c.line;
     if from < text.len() {
-        return piece_at(k, text, from, on);
+        return piece_at(text, from, on);
     }
     Place {
         kind: 0,

@@ -1,7 +1,6 @@
 // Where a word or a number ends: at the first byte that doesn't go on with it, or at the text's end.
 ghost use Rattle.std.specs.Prelude.{◌≡◌, ◌+◌, ◌≤◌, ◌<◌, length, drop};
 ghost use Rattle.grammar.specs.Classes.{in_word, is_digit};
-ghost use Rattle.letters.specs.Table.{classes};
 ghost use Rattle.letters.specs.Runs.{run};
 
 use crate::classes::class_of;
@@ -11,14 +10,13 @@ const UPPER: u8 = 2;
 
 const DIGIT: u8 = 4;
 
-pub fn word_end(k: &[u8; 256], text: &[u8], at: usize) -> usize
-    requires k_value { k.now ≡ classes }
-    requires at_in_bounds { at ≤ length text.now }
+pub fn word_end(text: &[u8], at: usize) -> usize
+    requires { at ≤ length text.now }
     ensures { (result ≡ at + run in_word (drop at text.now)) × (result ≤ length text.now) }
 {
     let mut i = at;
     while i < text.len() {
-        let c = class_of(k, text[i]);
+        let c = class_of(text[i]);
         if c < UPPER {
             return i;
         }
@@ -31,14 +29,13 @@ pub fn word_end(k: &[u8; 256], text: &[u8], at: usize) -> usize
 }
 
 #[tactic(auto, using(crate::proofs::Cited::runs_number_end_lemmas))]
-pub fn number_end(k: &[u8; 256], text: &[u8], at: usize) -> usize
-    requires k_value { k.now ≡ classes }
-    requires at_in_bounds { at ≤ length text.now }
+pub fn number_end(text: &[u8], at: usize) -> usize
+    requires { at ≤ length text.now }
     ensures { (result ≡ at + run is_digit (drop at text.now)) × (result ≤ length text.now) }
 {
     let mut i = at;
     while i < text.len() {
-        if class_of(k, text[i]) != DIGIT {
+        if class_of(text[i]) != DIGIT {
             return i;
         }
         i += 1;

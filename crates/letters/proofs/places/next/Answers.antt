@@ -3,8 +3,8 @@ use Rattle.letters.proofs.NextLaws.{no-blank-there, says-end, says-found}
 use Rattle.std.proofs.Common.{rules}
 use Rattle.letters.proofs.places.next.Goals as goal
 
-pub piece_at-requires-clause-at_in_bounds : goal.piece_at-requires-clause-at_in_bounds
-piece_at-requires-clause-at_in_bounds c = search (rules, no-blank-there, says-found, says-end)
+pub piece_at-requires : goal.piece_at-requires
+piece_at-requires c = search (rules, no-blank-there, says-found, says-end)
 
 pub returns-then-from-text : goal.returns-then-from-text
 returns-then-from-text c = search (rules, no-blank-there, says-found, says-end)
