@@ -1,5 +1,5 @@
 -- The parts of a row as the code reads them: a law for each answer. Assumes nothing.
-use Prim.Native.Nat.{ℕ, zero, suc, ◌+◌, ◌<◌, ◌≤◌, min}
+use Prim.Native.Nat.{ℕ, zero, suc, ◌+◌, ◌-◌, ◌<◌, ◌≤◌, min}
 use mathlib.Core.Path.{◌≡◌, refl, sym, ap, ◌∙◌}
 use mathlib.Core.Bool.{Bool, true, false, cond, not, ◌&&◌}
 use mathlib.Core.Option.{Option, none, some}
@@ -8,7 +8,7 @@ use native.Mathlib.Omega.{arith}
 use native.Mathlib.Nat.{min-eq_left, min-eq_right}
 use native.Mathlib.Numerals.{add-one}
 use lib.Dec.{eqb, ltb, leb}
-use lib.ListN.{length, get_or, drop}
+use lib.ListN.{length, get_or, take, drop}
 use lib.Seq.{slice}
 use borrow.Author.Tests.{eq-eqb, ne_eqb, lt-ltb, le-ltb, lt-leb, le-leb, ltb-true, ltb-false, leb-true, leb-false, not-false}
 use Rattle.laws.specs.Bools.{and_both}
@@ -20,10 +20,15 @@ use Rattle.letters.specs.Runs.{run}
 use Rattle.letters.specs.Kinds.{kind_or, word_kind}
 use Rattle.letters.proofs.RunLaws.{ran}
 use Rattle.fieldlist.specs.Judged.{name_end, code_end, code_at, first_of, name_fault, code_fault, unless}
-use Rattle.fieldlist.specs.Answer.{place_of, NameSays, CodeSays, RowSays}
-use Rattle.fieldlist.specs.declared.parts.NamePart.{NamePart}
+use Rattle.std.specs.Prelude.{Option as Optional, Some, None, is_some, Ok, Err}
+use Rattle.laws.specs.Options.{math_option}
+use Rattle.fieldlist.specs.Fault.{fault_no}
+use Rattle.fieldlist.specs.Answer.{NameSays, CodeSays, RowSays}
 use Rattle.fieldlist.specs.declared.parts.CodePart.{CodePart}
+use Rattle.fieldlist.specs.declared.fault.RowFault.{RowFault}
+use Rattle.fieldlist.specs.declared.fault.RowFault.TheVariants.{NoRoom, NoName, Reserved, Repeated, NoComma, NoDigit, NoLineEnd, OutOfRange, NotAbove}
 use Rattle.fieldlist.proofs.Pieces.{begins-at, begins-end, begins-in}
+use Rattle.fieldlist.proofs.SameLaws.{part-is}
 
 -- ---- a byte that isn't there
 
@@ -36,6 +41,8 @@ module _ (s : List ℕ) (at b : ℕ) where
 
   pub lacks-other : at < length s → (get_or s at 0 ≡ b → ⊥) → true ≡ not (begins (eqb b) (drop at s))
   lacks-other h n = rw (begins-at (eqb b) s at h, ne_eqb b (get_or s at 0) (λ e. n (sym e)))
+
+pub ruleset lacks_lemmas = (lacks-end, lacks-not, lacks-other)
 
 -- ---- a code
 
@@ -58,6 +65,8 @@ module _ (k last : ℕ) where
   pub code-fine : (k ≡ 0 → ⊥) → k ≤ 65535 → last < k → 0 ≡ first_of 8 (not (ltb 0 k && ltb k 65536) ∷ leb k last ∷ [])
   unfolding first_of
   code-fine n h l = rw (lt-ltb 0 k (omega arith), lt-ltb k 65536 (omega arith), lt-leb k last l)
+
+pub ruleset order_lemmas = (code-zero, code-large, code-low, code-fine)
 
 -- the ceiling, far above every code, hides no fault
 capped-tests : (k last : ℕ) → first_of 8 (code_tests (min k 8589934592) last) ≡ first_of 8 (code_tests k last)
@@ -108,20 +117,20 @@ a-run p s n = go (begins p s) refl
     go false e = absurd (n (none-run p s e))
 
 module _ (s : List ℕ) (last end : ℕ) {t : Bool} (comma : t ≡ not (begins (eqb 44) (drop end s))) where
-  pub no-comma : t ≡ true → CodeSays s last end (record { why = 5; code = 0; next = 0 })
+  pub no-comma : t ≡ true → CodeSays s last end (Err NoComma)
   unfolding code_fault first_of
-  no-comma h = let f : not (begins (eqb 44) (drop end s)) ≡ true = sym comma ∙ h in record { why = rw f; parts = λ z. absurd (omega arith) }
+  no-comma h = let f : not (begins (eqb 44) (drop end s)) ≡ true = sym comma ∙ h in rw f
 
   pub behind-comma : t ≡ false → end + 1 ≤ length s
   behind-comma h = omega (arith, begins-in (eqb 44) s end (not-false _ (sym comma ∙ h)))
 
   module _ {e : ℕ} (number : e ≡ end + 1 + run is_digit (drop (end + 1) s)) where
-    pub no_digit : t ≡ false → e ≡ end + 1 → CodeSays s last end (record { why = 6; code = 0; next = 0 })
+    pub no_digit : t ≡ false → e ≡ end + 1 → CodeSays s last end (Err NoDigit)
     unfolding code_fault first_of
     no_digit h z =
         let f : not (begins (eqb 44) (drop end s)) ≡ false = sym comma ∙ h in
         let g : begins is_digit (drop (suc end) s) ≡ false = no_run is_digit (drop (suc end) s) (rw (← add-one end) (omega arith)) in
-        record { why = rw (f, g); parts = λ z. absurd (omega arith) }
+        rw (f, g)
 
     digits-there : (e ≡ end + 1 → ⊥) → begins is_digit (drop (suc end) s) ≡ true
     digits-there n = a-run is_digit (drop (suc end) s) (λ z. n (omega (arith, ap (λ (i : ℕ). run is_digit (drop i s)) (add-one end))))
@@ -131,24 +140,31 @@ module _ (s : List ℕ) (last end : ℕ) {t : Bool} (comma : t ≡ not (begins (
     ends = number ∙ rw (add-one end)
 
     module _ {u : Bool} (line : u ≡ not (begins (eqb 10) (drop e s))) where
-      pub no-line-end : t ≡ false → (e ≡ end + 1 → ⊥) → u ≡ true → CodeSays s last end (record { why = 7; code = 0; next = 0 })
+      pub no-line-end : t ≡ false → (e ≡ end + 1 → ⊥) → u ≡ true → CodeSays s last end (Err NoLineEnd)
       unfolding code_fault first_of
       no-line-end h n l =
           let f : not (begins (eqb 44) (drop end s)) ≡ false = sym comma ∙ h in
           let g : not (begins (eqb 10) (drop (code_end s end) s)) ≡ true = rw ends at (sym line ∙ l) in
-          record { why = rw (f, digits-there n, g); parts = λ z. absurd (omega arith) }
+          rw (f, digits-there n, g)
 
-      pub code_read : {k w : ℕ} → t ≡ false → (e ≡ end + 1 → ⊥) → u ≡ false → k ≡ min (decimal (slice (end + 1) e s)) 8589934592
-          → w ≡ first_of 8 (not (ltb 0 k && ltb k 65536) ∷ leb k last ∷ []) → CodeSays s last end (record { why = w; code = k; next = e + 1 })
-      unfolding code_fault code_at first_of
-      code_read {k} {w} h n l i j =
-          let f : not (begins (eqb 44) (drop end s)) ≡ false = sym comma ∙ h in
-          let g : not (begins (eqb 10) (drop (code_end s end) s)) ≡ false = rw ends at (sym line ∙ l) in
-          let is : k ≡ min (code_at s end) 8589934592 = rw (add-one end, ends) at i in
-          record {
-            why = j ∙ (ap (λ (c : ℕ). first_of 8 (code_tests c last)) is ∙ (capped-tests (code_at s end) last ∙ rw (f, digits-there n, g)));
-            parts = λ z. (is ∙ capped_small (code_at s end) (rw is at (tests-small k last (sym j ∙ z))), rw (ends, add-one (code_end s end)));
-          }
+      module _ {k : ℕ} (h : t ≡ false) (n : e ≡ end + 1 → ⊥) (l : u ≡ false) (i : k ≡ min (decimal (slice (end + 1) e s)) 8589934592) where
+        code-is : k ≡ min (code_at s end) 8589934592
+        unfolding code_at
+        code-is = rw (add-one end, ends) at i
+
+        order-is : code_fault s last end ≡ first_of 8 (code_tests k last)
+        unfolding code_fault first_of
+        order-is =
+            let f : not (begins (eqb 44) (drop end s)) ≡ false = sym comma ∙ h in
+            let g : not (begins (eqb 10) (drop (code_end s end) s)) ≡ false = rw ends at (sym line ∙ l) in
+            sym (ap (λ (c : ℕ). first_of 8 (code_tests c last)) code-is ∙ (capped-tests (code_at s end) last ∙ rw (f, digits-there n, g)))
+
+        pub code-wrong : (w : RowFault) → fault_no w ≡ first_of 8 (not (ltb 0 k && ltb k 65536) ∷ leb k last ∷ []) → CodeSays s last end (Err w)
+        code-wrong w j = order-is ∙ sym j
+
+        pub code_read : 0 ≡ first_of 8 (not (ltb 0 k && ltb k 65536) ∷ leb k last ∷ []) → CodeSays s last end (Ok (record { code = k; next = e + 1 }))
+        code_read j =
+            (order-is ∙ sym j, code-is ∙ capped_small (code_at s end) (rw code-is at (tests-small k last (sym j))), rw (ends, add-one (code_end s end)))
 
 -- ---- the name
 
@@ -187,15 +203,10 @@ kind-other w q e n = go (spelled w reserved) e
     go none g = absurd (n g)
     go (some k) g = refl
 
-found_some : (i : ℕ) (o : Option ℕ) → o ≡ place_of i → (i ≡ 0 → ⊥) → present o ≡ true
-unfolding present place_of
-found_some zero o e n = absurd (n refl)
-found_some (suc i) o e n = rw e
-
-found_none : (i : ℕ) (o : Option ℕ) → o ≡ place_of i → i ≡ 0 → present o ≡ false
-unfolding present place_of
-found_none zero o e z = rw e
-found_none (suc i) o e z = absurd (omega arith)
+is_present : (i : Optional ℕ) (o : Option ℕ) {r : Bool} → math_option i ≡ o → r ≡ is_some i → r ≡ present o
+unfolding present
+is_present None o e f = f ∙ rw (← e)
+is_present (Some k) o e f = f ∙ rw (← e)
 
 module _ (s : List ℕ) (names : List (List ℕ)) (at : ℕ) {e c : ℕ}
     (there : at < length s) (ended : e ≡ at + run in_word (drop at s)) (within : e ≤ length s) (class : c ≡ class_of (get_or s at 0)) where
@@ -206,54 +217,60 @@ module _ (s : List ℕ) (names : List (List ℕ)) (at : ℕ) {e c : ℕ}
   first-is : begins (λ b. eqb (class_of b) lower) (drop at s) ≡ eqb c 3
   first-is = begins-at (λ b. eqb (class_of b) lower) s at there ∙ rw (← class)
 
-  pub not_lower : (c ≡ 3 → ⊥) → NameSays s names at (record { why = 2; end = e })
+  pub not_lower : (c ≡ 3 → ⊥) → NameSays s names at (Err NoName)
   unfolding name_fault first_of
-  not_lower n = record { why = rw (first-is, ne_eqb c 3 n); end = ends_so; within = within }
+  not_lower n = rw (first-is, ne_eqb c 3 n)
 
   module _ {q : ℕ} (kind : q ≡ word_kind (slice at e s)) where
-    pub name-reserved : c ≡ 3 → (q ≡ 2 → ⊥) → NameSays s names at (record { why = 3; end = e })
+    pub name-reserved : c ≡ 3 → (q ≡ 2 → ⊥) → NameSays s names at (Err Reserved)
     unfolding name_fault first_of
     name-reserved l n =
         let f : present (spelled (slice at (name_end s at) s) reserved) ≡ true = kind-other _ q (rw ends_so at kind) n in
-        record { why = rw (first-is, eq-eqb c 3 l, f); end = ends_so; within = within }
+        rw (first-is, eq-eqb c 3 l, f)
 
-    module _ {i : ℕ} (place : position_of (slice at e s) names ≡ place_of i) where
-      pub name-repeated : c ≡ 3 → q ≡ 2 → (i ≡ 0 → ⊥) → NameSays s names at (record { why = 4; end = e })
+    module _ (i : Optional ℕ) {r : Bool} (place : math_option i ≡ position_of (take (e - at) (drop at s)) names) (test : r ≡ is_some i) where
+      known : r ≡ present (position_of (slice at (name_end s at) s) names)
+      known = is_present i _ (rw (part-is s at e (omega (arith, ended)), ends_so) at place) test
+
+      pub name-repeated : c ≡ 3 → q ≡ 2 → r ≡ true → NameSays s names at (Err Repeated)
       unfolding name_fault first_of
       name-repeated l m n =
           let f : present (spelled (slice at (name_end s at) s) reserved) ≡ false = kind-field _ q (rw ends_so at kind) m in
-          let g : present (position_of (slice at (name_end s at) s) names) ≡ true = found_some i _ (rw ends_so at place) n in
-          record { why = rw (first-is, eq-eqb c 3 l, f, g); end = ends_so; within = within }
+          rw (first-is, eq-eqb c 3 l, f, ← known, n)
 
-      pub name-right : c ≡ 3 → q ≡ 2 → i ≡ 0 → NameSays s names at (record { why = 0; end = e })
+      pub name-right : c ≡ 3 → q ≡ 2 → r ≡ false → NameSays s names at (Ok e)
       unfolding name_fault first_of
       name-right l m n =
           let f : present (spelled (slice at (name_end s at) s) reserved) ≡ false = kind-field _ q (rw ends_so at kind) m in
-          let g : present (position_of (slice at (name_end s at) s) names) ≡ false = found_none i _ (rw ends_so at place) n in
-          record { why = rw (first-is, eq-eqb c 3 l, f, g); end = ends_so; within = within }
+          (rw (first-is, eq-eqb c 3 l, f, ← known, n), ends_so, within)
 
 -- ---- the row
 
-unless-first : (i j : ℕ) → (i ≡ 0 → ⊥) → i ≡ unless i j
+unless-first : (i j : ℕ) → (i ≡ 0 → ⊥) → unless i j ≡ i
 unfolding unless
 unless-first zero j n = absurd (n refl)
 unless-first (suc i) j n = refl
 
-module _ {s : List ℕ} {names : List (List ℕ)} {last at : ℕ} {n : NamePart} (named : NameSays s names at n) where
-  pub bad-name : (n.why ≡ 0 → ⊥) → RowSays s names last at (record { why = n.why; end = n.end; code = 0; next = 0 })
-  bad-name f =
-      record {
-        why = rw (← named.why) (unless-first n.why (code_fault s last (name_end s at)) f);
-        parts = λ z. absurd (f z);
-      }
+pub some-fault : (f : RowFault) → fault_no f ≡ 0 → ⊥
+some-fault NoRoom e = omega arith
+some-fault NoName e = omega arith
+some-fault Reserved e = omega arith
+some-fault Repeated e = omega arith
+some-fault NoComma e = omega arith
+some-fault NoDigit e = omega arith
+some-fault NoLineEnd e = omega arith
+some-fault OutOfRange e = omega arith
+some-fault NotAbove e = omega arith
 
-  pub named-row : {c : CodePart} → n.why ≡ 0 → CodeSays s last n.end c
-      → RowSays s names last at (record { why = c.why; end = n.end; code = c.code; next = c.next })
-  unfolding unless
-  named-row {c} z r =
-      let e = named.end in
-      let f : name_fault s names at ≡ 0 = sym named.why ∙ z in
-      record {
-        why = rw (f, ← e) r.why;
-        parts = λ y. let p = r.parts y in (e, rw (← e) p.0, rw (← e) p.1);
-      }
+module _ (s : List ℕ) (names : List (List ℕ)) (last at : ℕ) where
+  pub bad-name : (f : RowFault) → NameSays s names at (Err f) → RowSays s names last at (Err f)
+  bad-name f e = rw e (unless-first (fault_no f) (code_fault s last (name_end s at)) (some-fault f))
+
+  module _ {end : ℕ} (named : NameSays s names at (Ok end)) where
+    pub bad-code : (f : RowFault) → CodeSays s last end (Err f) → RowSays s names last at (Err f)
+    unfolding unless
+    bad-code f e = rw (named.0, ← named.1) e
+
+    pub named-row : (p : CodePart) → CodeSays s last end (Ok p) → RowSays s names last at (Ok (record { end = end; code = p.code; next = p.next }))
+    unfolding unless
+    named-row p r = (rw (named.0, ← named.1) r.0, named.1, rw (← named.1) r.1, rw (← named.1) r.2)

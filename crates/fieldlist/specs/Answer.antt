@@ -1,80 +1,67 @@
 -- What the code answers to a list of fields, all of it. Assumes nothing.
-use Rattle.std.specs.Prelude.{ℕ, zero, suc, ◌-◌, ◌<◌, ◌≤◌, ◌≡◌, List, [], ◌++◌, map, length, get_or, replicate}
-use Rattle.std.proofs.Math.Option.{Option, none, some}
-use Rattle.std.proofs.Math.Seq.{slice}
+use Rattle.std.specs.Prelude.{ℕ, suc, ◌-◌, ◌<◌, ◌≤◌, ◌≡◌, List, ◌++◌, map, length, get_or, replicate, Result, Ok, Err}
 use Rattle.laws.specs.UpTo.{up_to}
 use Rattle.rules.specs.Image.{most_fields}
 use Rattle.grammar.specs.FieldList.{Entry, entry, Listed}
-use Rattle.fieldlist.specs.Judged.{name_end, code_end, code_at, name_fault, code_fault, unless, Judged, right, wrong, judged, start_of, end_of, number_of}
+use Rattle.fieldlist.specs.Judged.{name_end, code_end, code_at, name_fault, code_fault, unless, Line, start_of, end_of, Judged, right, wrong, judged, number_of}
+use Rattle.fieldlist.specs.Fault.{fault_no, fault_at}
+use Rattle.fieldlist.specs.Names.{nowhere, word_at, Spans}
+use Rattle.fieldlist.specs.declared.names.Span.{Span}
+use Rattle.fieldlist.specs.declared.fault.RowFault.{RowFault}
 use Rattle.fieldlist.specs.declared.FieldRows.{FieldRows}
-use Rattle.fieldlist.specs.declared.parts.NamePart.{NamePart}
+use Rattle.fieldlist.specs.declared.BadRow.{BadRow}
 use Rattle.fieldlist.specs.declared.parts.CodePart.{CodePart}
 use Rattle.fieldlist.specs.declared.parts.RowPart.{RowPart}
 
--- sixteen numbers: these, and zeros behind them
-unfoldable pub sixteen : List ℕ → List ℕ
-sixteen ns = ns ++ replicate (most_fields - length ns) 0
+-- sixteen: these, and as many of one more behind them
+unfoldable pub sixteen : {A : Type 0} → A → List A → List A
+sixteen z xs = xs ++ replicate (most_fields - length xs) z
 
-unfoldable pub answer_of : Judged → FieldRows
-answer_of (right ls) =
-    record {
-      why = 0;
-      row = 0;
-      count = length ls;
-      from = sixteen (map start_of ls);
-      to = sixteen (map end_of ls);
-      codes = sixteen (map number_of ls);
-    }
-answer_of (wrong row why) = record { why = why; row = row; count = 0; from = sixteen []; to = sixteen []; codes = sixteen [] }
+abbrev pub span_of : Line → Span
+span_of l = record { from = start_of l; to = end_of l }
+
+unfoldable pub answer_of : Judged → Result FieldRows BadRow
+answer_of (right ls) = Ok (record { count = length ls; names = sixteen nowhere (map span_of ls); codes = sixteen 0 (map number_of ls) })
+answer_of (wrong row why) = Err (record { row = row; fault = fault_at why })
 
 -- ---- what the functions below it say
 
--- the names in a list by where they begin and end
-unfoldable pub words : List ℕ → List ℕ → List ℕ → ℕ → List (List ℕ)
-words list from to n = up_to (λ i. slice (get_or from i 0) (get_or to i 0) list) n
-
-pub record Spans (list from to : List ℕ) (n : ℕ) : Type 0 where
-  pub forward : (i : ℕ) → i < n → get_or from i 0 ≤ get_or to i 0
-  pub within : (i : ℕ) → i < n → get_or to i 0 ≤ length list
-
--- the place, from 0, that an index from 1 means; 0 is no place
-unfoldable pub place_of : ℕ → Option ℕ
-place_of zero = none
-place_of (suc i) = some i
-
 -- a row as the code reads it: where its name ends, its code, and where the next row begins
 
-pub record NameSays (list : List ℕ) (names : List (List ℕ)) (at : ℕ) (r : NamePart) : Type 0 where
-  pub why : r.why ≡ name_fault list names at
-  pub end : r.end ≡ name_end list at
-  pub within : r.end ≤ length list
+abbrev pub NameSays : List ℕ → List (List ℕ) → ℕ → Result ℕ RowFault → Type 0
+NameSays list names at (Ok end) = (name_fault list names at ≡ 0) × (end ≡ name_end list at) × (end ≤ length list)
+NameSays list names at (Err f) = name_fault list names at ≡ fault_no f
 
-pub record CodeSays (list : List ℕ) (last end : ℕ) (r : CodePart) : Type 0 where
-  pub why : r.why ≡ code_fault list last end
-  pub parts : r.why ≡ 0 → (r.code ≡ code_at list end) × (r.next ≡ suc (code_end list end))
+abbrev pub CodeSays : List ℕ → ℕ → ℕ → Result CodePart RowFault → Type 0
+CodeSays list last end (Ok p) = (code_fault list last end ≡ 0) × (p.code ≡ code_at list end) × (p.next ≡ suc (code_end list end))
+CodeSays list last end (Err f) = code_fault list last end ≡ fault_no f
 
-pub record RowSays (list : List ℕ) (names : List (List ℕ)) (last at : ℕ) (r : RowPart) : Type 0 where
-  pub why : r.why ≡ unless (name_fault list names at) (code_fault list last (name_end list at))
-  pub parts : r.why ≡ 0 → (r.end ≡ name_end list at) × (r.code ≡ code_at list (name_end list at)) × (r.next ≡ suc (code_end list (name_end list at)))
+abbrev pub RowSays : List ℕ → List (List ℕ) → ℕ → ℕ → Result RowPart RowFault → Type 0
+RowSays list names last at (Ok p) =
+    (unless (name_fault list names at) (code_fault list last (name_end list at)) ≡ 0)
+    × (p.end ≡ name_end list at)
+    × (p.code ≡ code_at list (name_end list at))
+    × (p.next ≡ suc (code_end list (name_end list at)))
+RowSays list names last at (Err f) = unless (name_fault list names at) (code_fault list last (name_end list at)) ≡ fault_no f
 
 -- ---- the rows of an answer
 
 unfoldable pub entries_of : List ℕ → FieldRows → List Entry
-entries_of list r = up_to (λ i. entry (slice (get_or r.from i 0) (get_or r.to i 0) list) (get_or r.codes i 0)) r.count
+entries_of list r = up_to (λ i. entry (word_at list (get_or r.names i nowhere)) (get_or r.codes i 0)) r.count
 
 pub record RightRows (list : List ℕ) (r : FieldRows) : Type 0 where
   pub listed : Listed list (entries_of list r)
   pub few : r.count ≤ most_fields
-  pub spans : Spans list r.from r.to r.count
+  pub spans : Spans list r.names r.count
   pub coded : (i : ℕ) → i < r.count → (0 < get_or r.codes i 0) × (get_or r.codes i 0 < 65536)
-  pub spare : (i : ℕ) → r.count ≤ i → (get_or r.from i 0 ≡ 0) × (get_or r.to i 0 ≡ 0) × (get_or r.codes i 0 ≡ 0)
+  pub spare : (i : ℕ) → r.count ≤ i → (get_or r.names i nowhere ≡ nowhere) × (get_or r.codes i 0 ≡ 0)
 
--- a list is right, or there is no way to read it as one that is
-abbrev pub Says : List ℕ → ℕ → FieldRows → Type 0
-Says list zero r = RightRows list r
-Says list (suc why) r = (fs : List Entry) → Listed list fs → ⊥
+-- a list is right; or there is no way to read it as one that is, and this is its first bad row
+abbrev pub Says : List ℕ → Result FieldRows BadRow → Type 0
+Says list (Ok r) = RightRows list r
+Says list (Err e) = (judged list ≡ wrong e.row (fault_no e.fault)) × ((fs : List Entry) → Listed list fs → ⊥)
 
 -- the whole contract of an answer: the judgement says every field of it
-pub record Answers (list : List ℕ) (r : FieldRows) : Type 0 where
+pub record Answers (list : List ℕ) (r : Result FieldRows BadRow) : Type 0 where
   pub is : r ≡ answer_of (judged list)
-  pub says : Says list r.why r
+  pub says : Says list r

@@ -1,2 +1,4 @@
 pub mod Judged
+pub mod Fault
+pub mod Names
 pub mod Answer

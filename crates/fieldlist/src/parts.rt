@@ -1,12 +1,13 @@
 // One row: its name, its comma, its digits and its line's end, with the first thing that is wrong with it.
-ghost use Rattle.std.specs.Prelude.{◌≡◌, not, ◌&&◌, [], ◌∷◌, ◌+◌, ◌<◌, ◌≤◌, eqb, ltb, leb, length, drop};
-ghost use Rattle.rules.specs.Image.{most_fields};
+ghost use Rattle.std.specs.Prelude.{◌≡◌, Bool, not, ◌&&◌, [], ◌∷◌, ◌+◌, ◌<◌, ◌≤◌, eqb, ltb, leb, length, drop, OnErr};
 ghost use Rattle.grammar.specs.Places.{begins};
-ghost use Rattle.letters.specs.Table.{classes};
 ghost use Rattle.fieldlist.specs.Judged.{first_of};
-ghost use Rattle.fieldlist.specs.Answer.{Spans, words, NameSays, CodeSays, RowSays};
+ghost use Rattle.fieldlist.specs.Fault.{why_of};
+ghost use Rattle.fieldlist.specs.Names.{Spans, words};
+ghost use Rattle.fieldlist.specs.Answer.{NameSays, CodeSays, RowSays};
 
-use crate::names::name_index;
+use crate::fault::RowFault;
+use crate::names::{Span, name_index};
 use letters::classes::class_of;
 use letters::kinds::kind_of_word;
 use letters::numbers::number_of;
@@ -14,155 +15,92 @@ use letters::runs::{number_end, word_end};
 
 const LOWER: u8 = 3;
 
-const COMMA: u8 = 44;
-
-const LINE_END: u8 = 10;
-
 const FIELD: u32 = 2;
 
 const LARGEST_CODE: usize = 65535;
 
-#[derive(Clone, Copy)]
-pub struct NamePart {
-    pub why: u32,
-    pub end: usize,
-}
-
+/// A code, and where the next row begins.
 #[derive(Clone, Copy)]
 pub struct CodePart {
-    pub why: u32,
     pub code: usize,
     pub next: usize,
 }
 
+/// Where a row's name ends, its code, and where the next row begins.
 #[derive(Clone, Copy)]
 pub struct RowPart {
-    pub why: u32,
     pub end: usize,
     pub code: usize,
     pub next: usize,
 }
 
-fn name_part(
-    k: &[u8; 256],
-    list: &[u8],
-    from: &[usize; 16],
-    to: &[usize; 16],
-    count: usize,
-    at: usize,
-) -> NamePart
-    requires k_value { k.now ≡ classes }
-    requires count_le_most_fields { (count ≤ most_fields) × Spans list.now from.now to.now count }
+// where the name ends
+fn name_part(list: &[u8], names: &[Span], at: usize) -> Result<usize, RowFault>
+    requires spans { Spans list.now names.now (length names.now) }
     requires at_in_bounds { at < length list.now }
-    ensures { NameSays list.now (words list.now from.now to.now count) at result }
+    ensures { NameSays list.now (words list.now names.now (length names.now)) at result }
 {
-    let end = word_end(k, list, at);
-    if class_of(k, list[at]) != LOWER {
-        return NamePart { why: 2, end: end };
+    let end = word_end(list, at);
+    if class_of(list[at]) != LOWER {
+        return Err(RowFault::NoName);
     }
     if kind_of_word(list, at, end) != FIELD {
-        return NamePart { why: 3, end: end };
+        return Err(RowFault::Reserved);
     }
-    if name_index(list, from, to, count, list, at, end) != 0 {
-        return NamePart { why: 4, end: end };
+    if name_index(list, names, &list[at..end]).is_some() {
+        return Err(RowFault::Repeated);
     }
-    NamePart { why: 0, end: end }
+    Ok(end)
 }
 
 // a byte of the list is not this one, or it isn't there
+#[tactic(auto, using(crate::proofs::PartLaws::lacks_lemmas))]
 fn lacks(list: &[u8], at: usize, b: u8) -> bool
     ensures { result ≡ not (begins (eqb b) (drop at list.now)) }
 {
-    if list.len() <= at {
-        return true;
-    }
-    if list[at] == b {
-        return false;
-    }
-    true
+    list.len() <= at || list[at] != b
 }
 
-fn code_fault(code: usize, last: usize) -> u32
-    ensures { result ≡ first_of 8 (not (ltb 0 code && ltb code 65536) ∷ leb code last ∷ []) }
+#[tactic(auto, using(crate::proofs::PartLaws::order_lemmas))]
+fn in_order(code: usize, last: usize) -> Result<(), RowFault>
+    ensures { why_of result ≡ first_of 8 (not (ltb 0 code && ltb code 65536) ∷ leb code last ∷ []) }
 {
-    if code == 0 {
-        return 8;
-    }
-    if LARGEST_CODE < code {
-        return 8;
+    if code == 0 || LARGEST_CODE < code {
+        return Err(RowFault::OutOfRange);
     }
     if code <= last {
-        return 9;
+        return Err(RowFault::NotAbove);
     }
-    0
+    Ok(())
 }
 
-fn code_part(k: &[u8; 256], list: &[u8], last: usize, end: usize) -> CodePart
-    requires k_value { k.now ≡ classes }
-    requires end_in_bounds { end ≤ length list.now }
+fn code_part(list: &[u8], last: usize, end: usize) -> Result<CodePart, RowFault>
+    requires { end ≤ length list.now }
     ensures { CodeSays list.now last end result }
 {
-    if lacks(list, end, COMMA) {
-        return CodePart {
-            why: 5,
-            code: 0,
-            next: 0,
-        };
+    if lacks(list, end, b',') {
+        return Err(RowFault::NoComma);
     }
     let start = end + 1;
-    let e = number_end(k, list, start);
+    let e = number_end(list, start);
     if e == start {
-        return CodePart {
-            why: 6,
-            code: 0,
-            next: 0,
-        };
+        return Err(RowFault::NoDigit);
     }
-    if lacks(list, e, LINE_END) {
-        return CodePart {
-            why: 7,
-            code: 0,
-            next: 0,
-        };
+    if lacks(list, e, b'\n') {
+        return Err(RowFault::NoLineEnd);
     }
     let code = number_of(list, start, e) as usize;
-    CodePart {
-        why: code_fault(code, last),
-        code: code,
-        next: e + 1,
-    }
+    in_order(code, last)?;
+    Ok(CodePart { code, next: e + 1 })
 }
 
-pub fn row_part(
-    k: &[u8; 256],
-    list: &[u8],
-    from: &[usize; 16],
-    to: &[usize; 16],
-    count: usize,
-    last: usize,
-    at: usize,
-) -> RowPart
-    requires k_value { k.now ≡ classes }
-    requires count_le_most_fields { (count ≤ most_fields) × Spans list.now from.now to.now count }
+/// The row that begins at byte `at`, behind rows with these names, the last of which has the code `last`.
+pub fn row_part(list: &[u8], names: &[Span], last: usize, at: usize) -> Result<RowPart, RowFault>
+    requires spans { Spans list.now names.now (length names.now) }
     requires at_in_bounds { at < length list.now }
-    ensures { RowSays list.now (words list.now from.now to.now count) last at result }
+    ensures { RowSays list.now (words list.now names.now (length names.now)) last at result }
 {
-    let n = name_part(k, list, from, to, count, at);
-    let why = n.why;
-    let end = n.end;
-    if why != 0 {
-        return RowPart {
-            why: why,
-            end: end,
-            code: 0,
-            next: 0,
-        };
-    }
-    let c = code_part(k, list, last, end);
-    RowPart {
-        why: c.why,
-        end: end,
-        code: c.code,
-        next: c.next,
-    }
+    let end = name_part(list, names, at)?;
+    let CodePart { code, next } = code_part(list, last, end)?;
+    Ok(RowPart { end, code, next })
 }

@@ -1,12 +1,11 @@
--- `fieldlist::rows` meets its contract: what is still to be looked at decides as the whole does. Assumes nothing.
+-- The rows before this place are read. Assumes nothing.
 use Prim.Native.Nat.{◌-◌}
 use Rattle.rules.specs.Image.{most_fields}
 use Rattle.fieldlist.proofs.GoingLaws.{Going}
 use Rattle.fieldlist.proofs.rows.Given as goal
 
 abbrev pub invariant-loop-at : goal.invariant-loop-at
-invariant-loop-at l = Going l.list l.from l.to l.codes l.count l.last l.at
+invariant-loop-at l = Going l.list l.names l.codes l.count l.last l.at
 
--- proposed from the loop's first test
 abbrev pub decreases-loop-at : goal.decreases-loop-at
 decreases-loop-at l = most_fields - l.count

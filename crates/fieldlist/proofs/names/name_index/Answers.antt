@@ -1,13 +1,15 @@
--- `fieldlist::names::name_index` meets its contract: no row passed has the name. Assumes nothing.
-use Rattle.fieldlist.proofs.SameLaws.{sought-none, sought-more, found, in-no-row, span-forward, span-within}
-use Rattle.std.proofs.Common.{rules}
+-- `fieldlist::names::name_index` meets its contract. Assumes nothing.
+use Rattle.fieldlist.proofs.SameLaws.{sought-none, sought-more, found, in-no-row}
 use Rattle.fieldlist.proofs.names.name_index.Goals as goal
 
-pub returns-then-same_bytes : goal.returns-then-same_bytes
-returns-then-same_bytes c = search (rules, sought-none, span-forward, span-within, found, sought-more, in-no-row)
+pub loop-i-init : goal.loop-i-init
+loop-i-init c = sought-none
+
+pub returns-then-eq : goal.returns-then-eq
+returns-then-eq c = found c.requires c.loop-i.invariant c.loop-i-test.true c.eq.ensures c.if-eq.true
 
 pub loop-i-preserved : goal.loop-i-preserved
-loop-i-preserved c = search (rules, sought-none, span-forward, span-within, found, sought-more, in-no-row)
+loop-i-preserved c = sought-more c.requires c.loop-i.invariant c.loop-i-test.true c.eq.ensures c.if-eq.false
 
 pub returns : goal.returns
-returns c = search (rules, sought-none, span-forward, span-within, found, sought-more, in-no-row)
+returns c = in-no-row c.loop-i.invariant c.loop-i-test.false
