@@ -7,6 +7,7 @@ use mathlib.Core.Option.{none, some}
 use mathlib.Core.List.{List, [], ◌∷◌, ◌++◌, append_assoc, append-nil}
 use native.Mathlib.Omega.{arith}
 use lib.ListN.{length, get_or}
+use Rattle.std.specs.Prelude.{Option}
 use Rattle.reading.specs.Items.{Item}
 use Rattle.reading.specs.Table.{Due, command, body, var_name, var_semi, malloc_open, malloc_name, atom_open, middle, shut, otherwise, close, close_node, node, test, test_left, test_minus, operand, negative, name_first, first, first_dot, first_dotted, first_minus, becomes_due, expression, sel, sel_dot, after_minus, sel_minus, sel_minus_dot, proc_name, proc_colon, Act, take, pass, refuse, row_for, operands, commands, minuses, arguments, firsts, sides, does, finish}
 use Rattle.dues.specs.declared.Made.{Made}
@@ -104,7 +105,7 @@ module _ (ws : List ℕ) (depth : ℕ) where
       rw a.split (finish-stops a.above a.left a.top is a.passes q)
 
   -- and there is no third way
-  pub never-taken : {A : Type 0} (i : ℕ) (r : Deed) (v : Dues) (m : Made) → Standing depth ws → Looked ws depth 0 i → 0 < i
+  pub never-taken : {A : Type 0} (i : ℕ) (r : Deed) (v : Dues) (m : Option Made) → Standing depth ws → Looked ws depth 0 i → 0 < i
       → Learns (get_or ws (i - 1) 0) 0 r → r ≡ Take v m → A
   never-taken zero r v m s l p h e = absurd (omega arith)
   never-taken (suc j) r v m s l p h e =

@@ -2,6 +2,9 @@
 use Prim.Native.Nat.{ℕ, zero, suc, ◌+◌, ◌<◌, ◌≤◌}
 use mathlib.Core.Path.{◌≡◌, refl, sym, ap, ◌∙◌}
 use mathlib.Core.List.{List, [], ◌∷◌}
+use Rattle.std.specs.Prelude.{reverse}
+use Rattle.std.proofs.lemmas.List.{reverse-append}
+use lib.Seq.{take-suc, get_or-take, length-take-le}
 use native.Mathlib.Omega.{arith}
 use native.Mathlib.Numerals.{add-one}
 use lib.ListN.{length, get_or, take, drop, set, length-set}
@@ -54,14 +57,13 @@ piled-more vs n m w entry exit p h =
       past = past-set exit m w ∙ further exit entry m p.past;
     })
 
--- four of four, however many are asked for
-pub all-four : (n a b c d : ℕ) → 4 ≤ n → take n (a ∷ b ∷ c ∷ d ∷ []) ≡ a ∷ b ∷ c ∷ d ∷ []
-all-four zero a b c d h = absurd (omega arith)
-all-four (suc zero) a b c d h = absurd (omega arith)
-all-four (suc (suc zero)) a b c d h = absurd (omega arith)
-all-four (suc (suc (suc zero))) a b c d h = absurd (omega arith)
-all-four (suc (suc (suc (suc n)))) a b c d h = ap (λ (l : List ℕ). a ∷ b ∷ c ∷ d ∷ l) (none n)
-  where
-    none : (n : ℕ) → take {A = ℕ} n [] ≡ []
-    none zero = refl
-    none (suc n) = refl
+-- the i-th of these words goes on those before it
+pub piled-next : (vs : List ℕ) (count i n : ℕ) (entry exit : List ℕ) → Piled (reverse (take i vs)) n (n + i) entry exit
+    → i < length (take count vs) → count ≤ length vs → n + count ≤ length entry
+    → Piled (reverse (take (i + 1) vs)) n (n + (i + 1)) entry (set exit (n + i) (get_or (take count vs) i 0))
+piled-next vs count i n entry exit p h few room =
+    let below : i < count = omega (arith, h, length-take-le count vs few) in
+    let e : reverse (take (i + 1) vs) ≡ get_or vs i 0 ∷ reverse (take i vs) =
+    rw (add-one i, take-suc vs i 0 (omega arith), reverse-append (take i vs)) refl in
+    let m : n + (i + 1) ≡ n + i + 1 = omega arith in
+    rw (e, m, get_or-take count vs i 0 below) (piled-more (reverse (take i vs)) n (n + i) (get_or vs i 0) entry exit p (omega (arith, p.same_length)))

@@ -10,7 +10,7 @@ use Rattle.dues.specs.declared.Made.{Made}
 use Rattle.dues.specs.declared.Dues.{Dues}
 use Rattle.dues.specs.declared.Deed.{Deed}
 use Rattle.dues.specs.declared.Deed.TheVariants.{Take, Pass, Refuse}
-use Rattle.dues.specs.declared.Taker.TheVariants.{At, Nowhere}
+use Rattle.std.specs.Prelude.{Option, Some, None}
 use Rattle.dues.specs.Words.{taken, passed, refused, due_word, deed_of, in_words}
 use Rattle.dues.specs.Stack.{DueFits, IsDue, stack_of, Stacked, Standing, passing, PassesAll, passed_items, Reaches, TakenBy, TakerSays}
 use Rattle.dues.proofs.PassLaws.{passes-always, feed-above}
@@ -138,7 +138,7 @@ all_pass [] d k h p = (p, tt)
 all_pass (e ∷ above) d k h p = (h.0, all_pass above d k h.1 p)
 
 -- it is passed
-pub passed_on : (ws : List ℕ) (depth k i : ℕ) (r : Deed) (m : Made) → Looked ws depth k i → 0 < i → Learns (get_or ws (i - 1) 0) k r → r ≡ Pass m → Looked ws depth k (i - 1)
+pub passed_on : (ws : List ℕ) (depth k i : ℕ) (r : Deed) (m : Option Made) → Looked ws depth k i → 0 < i → Learns (get_or ws (i - 1) 0) k r → r ≡ Pass m → Looked ws depth k (i - 1)
 passed_on ws depth k zero r m l p h e = absurd (omega arith)
 passed_on ws depth k (suc j) r m l p h e =
     let n : suc j - 1 ≡ j = omega arith in
@@ -157,8 +157,8 @@ passed_on ws depth k (suc j) r m l p h e =
     }
 
 -- it takes the token
-pub taken-there : (ws : List ℕ) (depth k i : ℕ) (r : Deed) (v : Dues) (m : Made)
-    → Looked ws depth k i → 0 < i → Learns (get_or ws (i - 1) 0) k r → r ≡ Take v m → (ds : List Due) → Stacked ds depth ws → TakerSays ds k (At (i - 1))
+pub taken-there : (ws : List ℕ) (depth k i : ℕ) (r : Deed) (v : Dues) (m : Option Made)
+    → Looked ws depth k i → 0 < i → Learns (get_or ws (i - 1) 0) k r → r ≡ Take v m → (ds : List Due) → Stacked ds depth ws → TakerSays ds k (Some (i - 1))
 taken-there ws depth k zero r v m l p h e ds s = absurd (omega arith)
 taken-there ws depth k (suc j) r v m l p h e ds s =
     let n : suc j - 1 ≡ j = omega arith in
@@ -195,7 +195,7 @@ taker-goes-on ds k q t is = rw t.split (feed-above t.above (t.taker ∷ t.left) 
 
 -- it refuses it
 pub refused-there : (ws : List ℕ) (depth k i : ℕ) (r : Deed)
-    → Looked ws depth k i → 0 < i → Learns (get_or ws (i - 1) 0) k r → r ≡ Refuse → (ds : List Due) → Stacked ds depth ws → TakerSays ds k Nowhere
+    → Looked ws depth k i → 0 < i → Learns (get_or ws (i - 1) 0) k r → r ≡ Refuse → (ds : List Due) → Stacked ds depth ws → TakerSays ds k None
 unfolding feed
 refused-there ws depth k zero r l p h e ds s is = absurd (omega arith)
 refused-there ws depth k (suc j) r l p h e ds s is =
@@ -205,7 +205,7 @@ refused-there ws depth k (suc j) r l p h e ds s is =
     rw a.split (feed-above a.above (a.top ∷ a.left) k 0 is a.passes ∙ rw q)
 
 -- nothing is due any more
-pub nothing_left : (ws : List ℕ) (depth k i : ℕ) → Looked ws depth k i → i ≡ 0 → (ds : List Due) → Stacked ds depth ws → TakerSays ds k Nowhere
+pub nothing_left : (ws : List ℕ) (depth k i : ℕ) → Looked ws depth k i → i ≡ 0 → (ds : List Due) → Stacked ds depth ws → TakerSays ds k None
 unfolding feed
 nothing_left ws depth k i l z ds s is =
     let r = l.reaches ds s in

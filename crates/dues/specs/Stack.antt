@@ -2,8 +2,7 @@
 use Rattle.std.specs.Prelude.{ℕ, zero, suc, ◌+◌, ◌<◌, ◌≤◌, ◌≡◌, List, [], ◌∷◌, ◌++◌, map, length, get_or, drop}
 use Rattle.reading.specs.Items.{Item, put}
 use Rattle.reading.specs.Table.{Due, command, body, var_name, var_semi, malloc_open, malloc_name, atom_open, middle, shut, otherwise, close, close_node, node, test, test_left, test_minus, operand, negative, name_first, first, first_dot, first_dotted, first_minus, becomes_due, expression, sel, sel_dot, after_minus, sel_minus, sel_minus_dot, proc_name, proc_colon, take, pass, does, feed, stuck}
-use Rattle.dues.specs.declared.Taker.{Taker}
-use Rattle.dues.specs.declared.Taker.TheVariants.{At, Nowhere}
+use Rattle.std.specs.Prelude.{Option, Some, None}
 use Rattle.dues.specs.Words.{due_word}
 
 -- a tag from 1 on, and a name, that have room in a word
@@ -136,9 +135,9 @@ pub record TakenBy (ds : List Due) (k n : ℕ) : Type 0 where
   pub takes : does taker k 0 ≡ take instead nodes
 
 -- what the code answers: the place in the stack of what takes a token of kind k; or nothing takes it
-abbrev pub TakerSays : List Due → ℕ → Taker → Type 0
-TakerSays ds k (At n) = TakenBy ds k n
-TakerSays ds k Nowhere = (is : List Item) → feed ds k 0 is ≡ stuck
+abbrev pub TakerSays : List Due → ℕ → Option ℕ → Type 0
+TakerSays ds k (Some n) = TakenBy ds k n
+TakerSays ds k None = (is : List Item) → feed ds k 0 is ≡ stuck
 
 -- ---- things put on the stack: vs, top first, on the n that were there; what is past them stays
 pub record Piled (vs : List ℕ) (n m : ℕ) (entry exit : List ℕ) : Type 0 where

@@ -1,7 +1,7 @@
 -- What is due, in words: each thing due has a number, with its tag and its name above it, and zero is none of them. What a token does, as the
 -- code answers it, is read back from its answer and compared with the table of `reading`. Assumes nothing.
-use Rattle.std.specs.Prelude.{ℕ, ◌+◌, ◌*◌, ◌/◌, ◌%◌, ◌<◌, ◌≡◌, cond, List, [], ◌∷◌, ◌++◌, map, get_or, take as first_of, eqb}
-use Rattle.std.proofs.Math.Option.{Option, none, some}
+use Rattle.std.specs.Prelude.{ℕ, ◌+◌, ◌*◌, ◌/◌, ◌%◌, ◌<◌, ◌≡◌, List, [], ◌∷◌, ◌++◌, map, get_or, take as first_of, reverse, Option, Some, None}
+use Rattle.std.proofs.Math.Option.{Option as Maybe, none, some}
 use Rattle.reading.specs.Items.{Item, put}
 use Rattle.reading.specs.Table.{Due, command, body, var_name, var_semi, malloc_open, malloc_name, atom_open, middle, shut, otherwise, close, close_node, node, test, test_left, test_minus, operand, negative, name_first, first, first_dot, first_dotted, first_minus, becomes_due, expression, sel, sel_dot, after_minus, sel_minus, sel_minus_dot, proc_name, proc_colon, Act, take, pass, refuse, does}
 use Rattle.dues.specs.declared.Made.{Made}
@@ -89,23 +89,25 @@ things =
     ∷ makes (λ t x. proc_colon x)
     ∷ []
 
-abbrev pub made_by : Maker → ℕ → ℕ → Option Due
+abbrev pub made_by : Maker → ℕ → ℕ → Maybe Due
 made_by nothing t x = none
 made_by (makes f) t x = some (f t x)
 
-unfoldable pub due_by : ℕ → ℕ → ℕ → Option Due
+unfoldable pub due_by : ℕ → ℕ → ℕ → Maybe Due
 due_by n t x = made_by (get_or things n nothing) t x
 
-unfoldable pub due_of : ℕ → Option Due
+unfoldable pub due_of : ℕ → Maybe Due
 due_of w = due_by (w % 64) (w / 64 % 64) (w / 4096)
 
 -- ---- an answer of the code
 
-abbrev pub made_items : Made → List Item
-made_items m = cond (eqb m.tag 0) [] (put m.tag m.value ∷ [])
+abbrev pub made_items : Option Made → List Item
+made_items None = []
+made_items (Some m) = put m.tag m.value ∷ []
 
+-- the next one first; there are at most four
 abbrev pub due_words : Dues → List ℕ
-due_words d = first_of d.count (d.a ∷ d.b ∷ d.c ∷ d.d ∷ [])
+due_words d = reverse (first_of d.count d.words)
 
 -- what a token does, with what is due in words
 pub data WordAct : Type 0 where
@@ -124,7 +126,7 @@ in_words (pass is) = passed is
 in_words refuse = refused
 
 -- what a token does to a thing due that is given by its number, tag and name; nothing takes a token
-abbrev pub done_to : Option Due → ℕ → ℕ → WordAct
+abbrev pub done_to : Maybe Due → ℕ → ℕ → WordAct
 done_to none k v = refused
 done_to (some d) k v = in_words (does d k v)
 

@@ -6,18 +6,11 @@ ghost use Rattle.dues.specs.Words.{due_words, made_items, deed_of, taken, refuse
 
 use crate::{Deed, Dues, Made};
 
-pub fn nothing_made() -> Made
-    ensures { made_items result ≡ [] }
-{
-    Made { tag: 0, value: 0 }
-}
-
 // a node comes out
-pub fn made(tag: u32, value: u32) -> Made
-    requires { 0 < tag }
+pub fn made(tag: u32, value: u32) -> Option<Made>
     ensures { made_items result ≡ put tag value ∷ [] }
 {
-    Made { tag, value }
+    Some(Made { tag, value })
 }
 
 pub fn none_due() -> Dues
@@ -26,10 +19,7 @@ pub fn none_due() -> Dues
 {
     Dues {
         count: 0,
-        a: 0,
-        b: 0,
-        c: 0,
-        d: 0,
+        words: [0, 0, 0, 0],
     }
 }
 
@@ -39,10 +29,7 @@ pub fn one_due(a: u32) -> Dues
 {
     Dues {
         count: 1,
-        a,
-        b: 0,
-        c: 0,
-        d: 0,
+        words: [a, 0, 0, 0],
     }
 }
 
@@ -52,10 +39,7 @@ pub fn two_due(a: u32, b: u32) -> Dues
 {
     Dues {
         count: 2,
-        a,
-        b,
-        c: 0,
-        d: 0,
+        words: [b, a, 0, 0],
     }
 }
 
@@ -64,10 +48,7 @@ pub fn three_due(a: u32, b: u32, c: u32) -> Dues
 {
     Dues {
         count: 3,
-        a,
-        b,
-        c,
-        d: 0,
+        words: [c, b, a, 0],
     }
 }
 
@@ -77,37 +58,33 @@ pub fn before(a: u32, rest: Dues) -> Dues
     ensures result_value { due_words result ≡ a ∷ due_words rest }
     ensures count_value { result.count ≡ rest.count + 1 }
 {
-    Dues {
-        count: rest.count + 1,
-        a,
-        b: rest.a,
-        c: rest.b,
-        d: rest.c,
-    }
+    let mut all = rest;
+    all.words[rest.count] = a;
+    all.count += 1;
+    all
 }
 
 // the token is taken, and this is due instead
 pub fn then_one(a: u32) -> Deed
     ensures { deed_of result ≡ taken (a ∷ []) [] }
 {
-    Deed::Take(one_due(a), nothing_made())
+    Deed::Take(one_due(a), None)
 }
 
 pub fn then_two(a: u32, b: u32) -> Deed
     ensures { deed_of result ≡ taken (a ∷ b ∷ []) [] }
 {
-    Deed::Take(two_due(a, b), nothing_made())
+    Deed::Take(two_due(a, b), None)
 }
 
 pub fn then_three(a: u32, b: u32, c: u32) -> Deed
     ensures { deed_of result ≡ taken (a ∷ b ∷ c ∷ []) [] }
 {
-    Deed::Take(three_due(a, b, c), nothing_made())
+    Deed::Take(three_due(a, b, c), None)
 }
 
 // and nothing is due instead, but a node comes out
 pub fn finishes(tag: u32, value: u32) -> Deed
-    requires { 0 < tag }
     ensures { deed_of result ≡ taken [] (put tag value ∷ []) }
 {
     Deed::Take(none_due(), made(tag, value))
@@ -115,7 +92,6 @@ pub fn finishes(tag: u32, value: u32) -> Deed
 
 // a leaf comes out, and then this is due
 pub fn leaf(tag: u32, value: u32, rest: Dues) -> Deed
-    requires { 0 < tag }
     ensures { deed_of result ≡ taken (due_words rest) (put tag value ∷ []) }
 {
     Deed::Take(rest, made(tag, value))

@@ -29,15 +29,14 @@ pub fn beginning(n: u32, x: u32, k: u32, v: u32) -> Deed
 // 8 to 13: what ends or joins
 #[tactic(auto, using(crate::proofs::DeedLaws::decided, crate::proofs::Cited::groups_ending_lemmas), unfolding(crate::specs::Words::due_by, crate::specs::Words::things, reading::specs::Table::does, reading::specs::Table::row_for, crate::specs::Words::due_word))]
 pub fn ending(n: u32, t: u32, x: u32, k: u32) -> Deed
-    requires t_nonzero { (n ≡ 9 → 0 < t) × (n ≡ 12 → 0 < t) × (n ≡ 13 → 0 < t) }
-    requires le_n { (8 ≤ n) × (n ≤ 13) }
+    requires { (8 ≤ n) × (n ≤ 13) }
     ensures { (v : ℕ) → deed_of result ≡ done_to (due_by n t x) k v }
 {
     match n {
         8 => things::at_middle(k),
         9 => deeds::only(k, 20, deeds::finishes(t, 0)),
         10 => deeds::only(k, 15, deeds::then_two(COMMAND, NODE_IF)),
-        11 => deeds::only(k, 18, Deed::Take(deeds::none_due(), deeds::nothing_made())),
+        11 => deeds::only(k, 18, Deed::Take(deeds::none_due(), None)),
         12 => deeds::only(k, 18, deeds::finishes(t, x)),
         _ => Deed::Pass(deeds::made(t, x)),
     }
@@ -66,7 +65,7 @@ pub fn selecting(n: u32, k: u32, v: u32) -> Deed
     ensures { (t x : ℕ) → deed_of result ≡ done_to (due_by n t x) k v }
 {
     match n {
-        20 => rows::first_row(k, deeds::nothing_made()),
+        20 => rows::first_row(k, None),
         21 => things::at_first_dot(k, v),
         22 => things::at_first_dotted(k),
         23 => things::at_first_minus(k),

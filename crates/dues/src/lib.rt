@@ -2,42 +2,35 @@
 // word: its number, and above it its tag and its name (module Words). Zero is nothing.
 #![tactic(auto)]
 
+ghost use Rattle.std.specs.Prelude.{◌≤◌};
+
 mod deeds;
 mod groups;
 mod rows;
 pub mod stack;
 mod things;
 
-// A node that comes out: its tag and its name, field index or integer. Tag 0 is no node.
+/// A node that comes out: its tag and its name, field index or integer.
 #[derive(Clone, Copy)]
 pub struct Made {
     pub tag: u32,
     pub value: u32,
 }
 
-// Things due, the next one first: `count` of these words.
+/// Things due, the next one last: the first `count` of these words.
 #[derive(Clone, Copy)]
 pub struct Dues {
     pub count: usize,
-    pub a: u32,
-    pub b: u32,
-    pub c: u32,
-    pub d: u32,
+    pub words: [u32; 4],
+    ghost few: { count ≤ 4 },
 }
 
-// What a token does to what is due: it is taken, and these are due instead; or nothing is due here any more; or it is refused.
+/// What a token does to what is due: it is taken, and these are due instead; or nothing is due here any more; or it is refused.
 #[derive(Clone, Copy)]
 pub enum Deed {
-    Take(Dues, Made),
-    Pass(Made),
+    Take(Dues, Option<Made>),
+    Pass(Option<Made>),
     Refuse,
-}
-
-// Where in the stack a token is taken, or that nothing takes it.
-#[derive(Clone, Copy)]
-pub enum Taker {
-    At(usize),
-    Nowhere,
 }
 
 // The numbers of the things due.

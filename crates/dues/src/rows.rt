@@ -15,7 +15,7 @@ fn opening(rest: Dues) -> Deed
     ensures { deed_of result ≡ taken (25 ∷ 11 ∷ due_words rest) [] }
 {
     let close = deeds::before(CLOSE, rest);
-    Deed::Take(deeds::before(EXPRESSION, close), deeds::nothing_made())
+    Deed::Take(deeds::before(EXPRESSION, close), None)
 }
 
 // An operand, and then these.
@@ -28,7 +28,7 @@ pub fn operand_row(k: u32, v: u32, rest: Dues) -> Deed
         1 => deeds::leaf(5, v, rest),
         2 => deeds::leaf(1, v, rest),
         3 => deeds::integer(v, rest),
-        4 => Deed::Take(deeds::before(NEGATIVE, rest), deeds::nothing_made()),
+        4 => Deed::Take(deeds::before(NEGATIVE, rest), None),
         6 => deeds::leaf(4, 0, rest),
         17 => opening(rest),
         _ => Deed::Refuse,
@@ -60,7 +60,7 @@ pub fn command_row(k: u32, v: u32) -> Deed
 
 // Behind a selection with which a command began: a dot, a minus of either kind, an argument. A node comes out first, where `made` is one.
 #[tactic(auto, unfolding(reading::specs::Table::row_for, reading::specs::Table::minuses, reading::specs::Table::arguments, reading::specs::Table::firsts, crate::specs::Words::due_word))]
-pub fn first_row(k: u32, made: Made) -> Deed
+pub fn first_row(k: u32, made: Option<Made>) -> Deed
     ensures { (v : ℕ) → deed_of result ≡ with_items (made_items made) (in_words (row_for k v firsts refuse)) }
 {
     match k {
@@ -74,7 +74,7 @@ pub fn first_row(k: u32, made: Made) -> Deed
 
 // Behind the left side of a test: a minus of either kind, a comparison. A node comes out first, where `made` is one.
 #[tactic(auto, unfolding(reading::specs::Table::row_for, reading::specs::Table::minuses, reading::specs::Table::sides, crate::specs::Words::due_word))]
-pub fn side_row(k: u32, made: Made) -> Deed
+pub fn side_row(k: u32, made: Option<Made>) -> Deed
     ensures { (v : ℕ) → deed_of result ≡ with_items (made_items made) (in_words (row_for k v sides refuse)) }
 {
     match k {

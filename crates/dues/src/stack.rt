@@ -5,7 +5,7 @@ ghost use Rattle.reading.specs.Table.{Due, does};
 ghost use Rattle.dues.specs.Words.{due_word, due_words, deed_of, in_words, NameFits};
 ghost use Rattle.dues.specs.Stack.{DueFits, IsDue, Stacked, Standing, TakerSays, Piled};
 
-use crate::{Deed, Dues, Taker, groups};
+use crate::{Deed, Dues, groups};
 
 // What a token of kind k and value v does to the thing due that a word stands for.
 pub fn does(w: u32, k: u32, v: u32) -> Deed
@@ -31,65 +31,30 @@ pub fn does(w: u32, k: u32, v: u32) -> Deed
     groups::going_on(n, x, k, v)
 }
 
-// What takes a token of kind k: asked from the top down, past what nothing is due of any more.
-pub fn taker(ws: &[u32], depth: usize, k: u32) -> Taker
+/// Where in the stack a token of kind k is taken: asked from the top down, past what nothing is due of any more.
+pub fn taker(ws: &[u32], depth: usize, k: u32) -> Option<usize>
     requires { Standing depth ws.now }
     ensures { (ds : List Due) → Stacked ds depth ws.now → TakerSays ds k result }
 {
     let mut i = depth;
     while 0 < i {
-        let d = does(ws[i - 1], k, 0);
-        match d {
-            Deed::Take(_, _) => {
-                return Taker::At(i - 1);
-            }
-            Deed::Pass(_) => {
-                i -= 1;
-            }
-            Deed::Refuse => {
-                return Taker::Nowhere;
-            }
+        i -= 1;
+        match does(ws[i], k, 0) {
+            Deed::Take(_, _) => return Some(i),
+            Deed::Pass(_) => {}
+            Deed::Refuse => return None,
         }
     }
-    Taker::Nowhere
+    None
 }
 
-// One word on the n that are there.
-fn push(ws: &mut [u32], n: usize, w: u32) -> usize
-    requires { n < length ws.old }
-    ensures by_index { (vs : List ℕ) (m : ℕ) (entry : List ℕ) → Piled vs m n entry ws.old → Piled (w ∷ vs) m result entry ws.new }
-    ensures value { (result ≡ n + 1) × (length ws.new ≡ length ws.old) }
-{
-    ws[n] = w;
-    n + 1
-}
-
-// These on the n that are there, the first of them on top.
-pub fn put(ws: &mut [u32], n: usize, d: Dues) -> usize
+/// These on the n that are there, the first of them on top.
+pub fn put(ws: &mut [u32], n: usize, dues: Dues) -> usize
     requires { n + 4 ≤ length ws.old }
-    ensures { Piled (due_words d) n result ws.old ws.new }
+    ensures { Piled (due_words dues) n result ws.old ws.new }
 {
-    let count = d.count;
-    let a = d.a;
-    let b = d.b;
-    let c = d.c;
-    match count {
-        0 => n,
-        1 => push(ws, n, a),
-        2 => {
-            let p = push(ws, n, b);
-            push(ws, p, a)
-        }
-        3 => {
-            let p = push(ws, n, c);
-            let q = push(ws, p, b);
-            push(ws, q, a)
-        }
-        _ => {
-            let p = push(ws, n, d.d);
-            let q = push(ws, p, c);
-            let s = push(ws, q, b);
-            push(ws, s, a)
-        }
+    for (i, word) in dues.words[..dues.count].iter().enumerate() {
+        ws[n + i] = *word;
     }
+    n + dues.count
 }

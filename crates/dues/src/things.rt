@@ -50,7 +50,7 @@ pub fn at_test_left(k: u32) -> Deed
 {
     match k {
         23 => deeds::then_three(OPERAND, NODE_SELECTION, TEST_LEFT),
-        _ => rows::side_row(k, deeds::nothing_made()),
+        _ => rows::side_row(k, None),
     }
 }
 
@@ -134,7 +134,7 @@ pub fn at_sel(k: u32) -> Deed
         4 => deeds::then_one(AFTER_MINUS),
         5 => deeds::then_one(AFTER_MINUS),
         23 => deeds::then_one(SEL_DOT),
-        _ => Deed::Pass(deeds::nothing_made()),
+        _ => Deed::Pass(None),
     }
 }
 

@@ -9,9 +9,6 @@ beginning-requires-clause-le_n c = let p = (due-parts _ c.requires.due).1 in (p.
 pub returns-then-n-lt8 : goal.returns-then-n-lt8
 returns-then-n-lt8 c = apart-done _ _ _ c.beginning.result (c.beginning.ensures _)
 
-pub ending-requires-clause-t_nonzero : goal.ending-requires-clause-t_nonzero
-ending-requires-clause-t_nonzero c = let p = (due-parts _ c.requires.due).1 in (p.tag-9, p.tag-12, p.tag-13)
-
 pub returns-then-n-lt14 : goal.returns-then-n-lt14
 returns-then-n-lt14 c = apart-done _ _ _ c.ending.result (c.ending.ensures _)
 

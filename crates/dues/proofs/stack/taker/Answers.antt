@@ -6,8 +6,8 @@ use Rattle.dues.proofs.stack.taker.Goals as goal
 pub loop-i-init : goal.loop-i-init
 loop-i-init c = search (rules, looking)
 
-pub does-d-requires-clause-due : goal.does-d-requires-clause-due
-does-d-requires-clause-due c = search (rules, next-is-due)
+pub does-requires-clause-due : goal.does-requires-clause-due
+does-requires-clause-due c = search (rules, next-is-due)
 
 pub returns-in-Take : goal.returns-in-Take
 returns-in-Take c = search (rules, taken-there)
