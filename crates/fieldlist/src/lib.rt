@@ -5,7 +5,7 @@ pub mod fault;
 pub mod names;
 pub mod parts;
 
-ghost use Rattle.std.specs.Prelude.{◌≡◌, map};
+ghost use Rattle.std.specs.Prelude.{◌≡◌, ◌<◌, map, IfSome};
 ghost use Rattle.laws.specs.Options.{math_option};
 ghost use Rattle.grammar.specs.FieldList.{word_of, position_of};
 ghost use Rattle.fieldlist.specs.Answer.{entries_of, RightRows, Answers};
@@ -76,7 +76,8 @@ pub fn rows(list: &[u8]) -> Result<FieldRows, BadRow>
 /// The place, from 0, of the row that has this name.
 pub fn index_of(list: &[u8], rows: &FieldRows, word: &[u8]) -> Option<usize>
     requires { RightRows list.now rows.now }
-    ensures { math_option result ≡ position_of word.now (map word_of (entries_of list.now rows.now)) }
+    ensures place { math_option result ≡ position_of word.now (map word_of (entries_of list.now rows.now)) }
+    ensures within { IfSome result (λ i. i < rows.now.count) }
 {
     name_index(list, &rows.names[..rows.count], word)
 }

@@ -2,7 +2,7 @@
 -- been read so far. Assumes nothing.
 use Prim.Native.Nat.{ℕ, ◌<◌}
 use mathlib.Core.Path.{◌≡◌, refl, sym, ap, ◌∙◌}
-use mathlib.Core.Bool.{true, false, true≢false}
+use mathlib.Core.Bool.{true, false}
 use mathlib.Core.Option.{Option, none, some}
 use mathlib.Core.List.{List, [], ◌∷◌, ◌++◌, map}
 use native.Mathlib.Omega.{arith}
@@ -27,20 +27,21 @@ use Rattle.letters.specs.Says.{piece_by}
 use Rattle.letters.specs.declared.places.Place.{Place}
 use Rattle.dues.specs.declared.Dues.{Dues}
 use Rattle.dues.specs.declared.Made.{Made}
-use Rattle.dues.specs.declared.Taker.{Taker}
-use Rattle.dues.specs.declared.Taker.TheVariants.{At, Nowhere}
+use Rattle.std.specs.Prelude.{Option as Optional, Some, None, Result, Ok, Err}
 use Rattle.dues.specs.Words.{taken, due_word, due_words, made_items, in_words}
 use Rattle.dues.specs.Stack.{DueFits, IsDue, Stacked, Standing, passed_items, TakenBy, TakerSays}
 use Rattle.dues.proofs.PassLaws.{feed-above}
 use Rattle.dues.proofs.StackLaws.{act-takes, taker-word, taker-goes-on}
-use Rattle.fieldlist.specs.Answer.{words}
+use Rattle.dues.specs.Words.{NameFits}
+use Rattle.fieldlist.specs.declared.names.Span.{Span}
+use Rattle.fieldlist.specs.Names.{words}
 use Rattle.judging.specs.Worth.{Valid, Fails, no_field, too_large, one-name-more, WorthSays}
 use Rattle.letters.specs.Upto.{piece_at}
-use Rattle.judging.specs.Judged.{TakenAs, Judges, JudgeSays, Takes-as, DecideSays, WorthFits, ValuedSays}
-use Rattle.judging.specs.declared.worth.Worth.{Worth}
+use Rattle.judging.specs.Judged.{TakenAs, Judges, JudgeSays, Takes-as, DecideSays}
 use Rattle.judging.specs.declared.worth.Worth.TheVariants as W
-use Rattle.judging.specs.declared.judge.Judged.{Judged}
-use Rattle.judging.specs.declared.judge.Judged.TheVariants.{Wrong, Takes, Names}
+use Rattle.judging.specs.declared.judge.Taken.{Taken}
+use Rattle.judging.specs.declared.wrong.Wrong.{Wrong}
+use Rattle.judging.specs.declared.wrong.Wrong.TheVariants.{BadByte, NotTaken}
 use Rattle.judging.proofs.WorthLaws.{words_long}
 
 -- ---- what a kind says of a piece
@@ -116,7 +117,7 @@ untaken-stuck ds k q v t is never =
     go js next refuse e = refl
 
 -- one that it takes
-taken_as : (fields : List Entry) (names : List (List ℕ)) (ds : List Due) (p : Piece) (k q v w : ℕ) (d : Dues) (m : Made) (t : TakenBy ds k q)
+taken_as : (fields : List Entry) (names : List (List ℕ)) (ds : List Due) (p : Piece) (k q v w : ℕ) (d : Dues) (m : Optional Made) (t : TakenBy ds k q)
     → w ≡ due_word t.taker → DueFits t.taker → Valid fields names p k v → Takes-as w k v d m → TakenAs fields names ds p k q d m
 taken_as fields names ds p k q v w d m t i fits valid h =
     let says : taken (due_words d) (made_items m) ≡ in_words (does t.taker k v) = h.takes t.taker fits i in
@@ -174,35 +175,27 @@ module _ {fields : List Entry} {text : List ℕ} {at line : ℕ} {names : List (
           absurd (omega arith)
 
   module _ (w : ℕ) (i : w ≡ due_word t.taker) (fits : DueFits t.taker) where
-    known-judged : (v : ℕ) (j : Judged) → Valid fields names (piece_at text r) r.kind v → noted names (piece_at text r) ≡ names
+    known-judged : (v : ℕ) (j : Result Taken Wrong) → Valid fields names (piece_at text r) r.kind v → noted names (piece_at text r) ≡ names
         → DecideSays w r.kind v q false j → Judges fields text g.before g.tokens names ds r j
-    known-judged v (Wrong j) valid same (e, never) = rw e (untaken-wrong v valid (never t.taker fits i))
-    known-judged v (Takes p d m) valid same (n, e, h) = rw e (taken_as fields names ds (piece_at text r) r.kind q v w d m t i fits valid h, same)
-    known-judged v (Names p d m) valid same (n, e, h) = absurd (true≢false (sym n))
+    known-judged v (Err j) valid same (e, never) = rw e (untaken-wrong v valid (never t.taker fits i))
+    known-judged v (Ok u) valid same (n, e, h) = rw (n, e) (taken_as fields names ds (piece_at text r) r.kind q v w u.dues u.made t i fits valid h, same)
 
-    new-judged : (j : Judged) → Valid fields names (piece_at text r) r.kind (length names) → r.kind ≡ 1 → length names < most_names
+    new-judged : (j : Result Taken Wrong) → Valid fields names (piece_at text r) r.kind (length names) → r.kind ≡ 1 → length names < most_names
         → DecideSays w r.kind (length names) q true j → Judges fields text g.before g.tokens names ds r j
-    new-judged (Wrong j) valid k room (e, never) = rw e (untaken-wrong (length names) valid (never t.taker fits i))
-    new-judged (Takes p d m) valid k room (n, e, h) = absurd (true≢false n)
-    new-judged (Names p d m) valid k room (n, e, h) =
+    new-judged (Err j) valid k room (e, never) = rw e (untaken-wrong (length names) valid (never t.taker fits i))
+    new-judged (Ok u) valid k room (n, e, h) =
         let a : piece_at text r ≡ variable (slice r.from r.to text) = piece-name r.kind (slice r.from r.to text) k in
         let more : noted names (piece_at text r) ≡ names ++ (slice r.from r.to text ∷ []) =
         rw a (new-name fields names (slice r.from r.to text) r.kind (rw a at valid)) in
-        rw e (taken_as fields names ds (piece_at text r) r.kind q (length names) w d m t i fits valid h, more, room)
-
-    valued-judged : (n : ℕ) (x : Worth) (j : Judged) → length names ≡ n → WorthSays fields names (piece_at text r) r.kind x
-        → ValuedSays w r.kind q n x j → Judges fields text g.before g.tokens names ds r j
-    valued-judged n (W.Known v) j l (valid, same, few) h = known-judged v j valid same h
-    valued-judged n W.New j l (valid, k, room) h = new-judged j valid k room (rw l h)
-    valued-judged n (W.Wrong e) j l fails h = rw h (fails-wrong g q t fails)
+        rw (n, e) (taken_as fields names ds (piece_at text r) r.kind q (length names) w u.dues u.made t i fits valid h, (more, room))
 
 -- ---- what the code learnt, and its answers
 
 -- of what takes the token
-abbrev pub Asked : ℕ → List ℕ → ℕ → Taker → Type 0
+abbrev pub Asked : ℕ → List ℕ → ℕ → Optional ℕ → Type 0
 Asked depth ws k t = (ds : List Due) → Stacked ds depth ws → TakerSays ds k t
 
-module _ (depth : ℕ) (ws : List ℕ) (k q : ℕ) (t : Taker) (s : Standing depth ws) (a : Asked depth ws k t) (e : t ≡ At q) where
+module _ (depth : ℕ) (ws : List ℕ) (k q : ℕ) (t : Optional ℕ) (s : Standing depth ws) (a : Asked depth ws k t) (e : t ≡ Some q) where
   standing-taker : TakenBy s.dues k q
   standing-taker = rw e at (a s.dues s.stacked)
 
@@ -214,37 +207,52 @@ module _ (depth : ℕ) (ws : List ℕ) (k q : ℕ) (t : Taker) (s : Standing dep
   pub taker-inside : q < length ws
   taker-inside = (taker-word s.dues depth ws k q s.stacked standing-taker).2
 
-pub worth-fits : (fields : List Entry) (text starts ends : List ℕ) (n : ℕ) (p : Piece) (k : ℕ) (x : Worth)
-    → WorthSays fields (words text starts ends n) p k x → WorthFits k n x
-worth-fits fields text starts ends n p k (W.Known v) h = h.2
-worth-fits fields text starts ends n p k W.New h = rw (words_long text starts ends n) at h.2
-worth-fits fields text starts ends n p k (W.Wrong j) h = tt
+pub known-fits : (fields : List Entry) (names : List (List ℕ)) (p : Piece) (k v : ℕ) → WorthSays fields names p k (Ok (W.Known v)) → NameFits k v
+known-fits fields names p k v h = h.2
+
+pub new-fits : (fields : List Entry) (text : List ℕ) (names : List Span) (n : ℕ) (p : Piece) (k : ℕ) → WorthSays fields (words text names n) p k (Ok W.New) → NameFits k n
+new-fits fields text names n p k h e = rw (words_long text names n) at h.2
 
 module _ (fields : List Entry) (text : List ℕ) (at line : ℕ) (depth : ℕ) (ws : List ℕ) (r : Place) where
-  pub judged-bad-byte : (names : List (List ℕ)) → r.kind ≡ 29 → JudgeSays fields text at line names depth ws r (Wrong 22)
+  pub judged-bad-byte : (names : List (List ℕ)) → r.kind ≡ 29 → JudgeSays fields text at line names depth ws r (Err BadByte)
   judged-bad-byte names e =
       record {
         says = λ ds is g s. wrong_byte g (piece_at text r) (piece-bad r.kind (slice r.from r.to text) e);
       }
 
-  pub judged-order : (names : List (List ℕ)) (t : Taker) → (r.kind ≡ 29 → ⊥) → Asked depth ws r.kind t → t ≡ Nowhere
-      → JudgeSays fields text at line names depth ws r (Wrong 23)
+  pub judged-order : (names : List (List ℕ)) (t : Optional ℕ) → (r.kind ≡ 29 → ⊥) → Asked depth ws r.kind t → t ≡ None
+      → JudgeSays fields text at line names depth ws r (Err NotTaken)
   judged-order names t d a e =
       record {
         says = λ ds is g s.
-            let none-there : TakerSays ds r.kind Nowhere = rw e at (a ds s) in
+            let none-there : TakerSays ds r.kind None = rw e at (a ds s) in
             wrong-order g (piece_at text r)
             (kind-of-piece r.kind (slice r.from r.to text) d) (none-there is);
       }
 
-  pub judged-taken : (starts ends : List ℕ) (n q : ℕ) (t : Taker) (x : Worth) (j : Judged) → Asked depth ws r.kind t → t ≡ At q
-      → WorthSays fields (words text starts ends n) (piece_at text r) r.kind x
-      → ValuedSays (get_or ws q 0) r.kind q n x j
-      → JudgeSays fields text at line (words text starts ends n) depth ws r j
-  judged-taken starts ends n q t x j a e worth h =
-      record {
-        says = λ ds is g s.
-            let b : TakenBy ds r.kind q = rw e at (a ds s) in
-            let w = taker-word ds depth ws r.kind q s b in
-            valued-judged g r q b (get_or ws q 0) w.0 w.1 n x j (words_long text starts ends n) worth h;
-      }
+  module _ (names : List Span) (n q : ℕ) (t : Optional ℕ) (a : Asked depth ws r.kind t) (e : t ≡ Some q) where
+    pub judged-worthless : (w : Wrong) → WorthSays fields (words text names n) (piece_at text r) r.kind (Err w)
+        → JudgeSays fields text at line (words text names n) depth ws r (Err w)
+    judged-worthless w fails = record { says = λ ds is g s. fails-wrong g q (rw e at (a ds s)) fails }
+
+    pub judged-known : (v : ℕ) (j : Result Taken Wrong) → WorthSays fields (words text names n) (piece_at text r) r.kind (Ok (W.Known v))
+        → DecideSays (get_or ws q 0) r.kind v q false j
+        → JudgeSays fields text at line (words text names n) depth ws r j
+    judged-known v j (valid, same, few) h =
+        record {
+          says = λ ds is g s.
+              let b : TakenBy ds r.kind q = rw e at (a ds s) in
+              let w = taker-word ds depth ws r.kind q s b in
+              known-judged g r q b (get_or ws q 0) w.0 w.1 v j valid same h;
+        }
+
+    pub judged-new : (j : Result Taken Wrong) → WorthSays fields (words text names n) (piece_at text r) r.kind (Ok W.New)
+        → DecideSays (get_or ws q 0) r.kind n q true j
+        → JudgeSays fields text at line (words text names n) depth ws r j
+    judged-new j (valid, k, room) h =
+        record {
+          says = λ ds is g s.
+              let b : TakenBy ds r.kind q = rw e at (a ds s) in
+              let w = taker-word ds depth ws r.kind q s b in
+              new-judged g r q b (get_or ws q 0) w.0 w.1 j valid k room (rw (words_long text names n) h);
+        }

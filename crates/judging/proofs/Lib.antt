@@ -1,4 +1,3 @@
 pub mod WorthLaws
 pub mod DecideLaws
 pub mod JudgeLaws
-pub mod Cited

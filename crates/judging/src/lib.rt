@@ -4,3 +4,4 @@
 
 pub mod judge;
 mod worth;
+pub mod wrong;

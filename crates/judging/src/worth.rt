@@ -1,134 +1,89 @@
 // What a token of a place is worth. The names so far are known by where each of them first stands in the text.
 ghost use Rattle.std.specs.Prelude.{◌≡◌, ◌≤◌, ◌<◌, length};
+ghost use Rattle.std.specs.Option.{ForSome};
 ghost use Rattle.std.proofs.Math.Seq.{slice};
 ghost use Rattle.rules.specs.Image.{most_names};
-ghost use Rattle.grammar.specs.FieldList.{position_of};
 ghost use Rattle.letters.specs.Says.{piece_by};
-ghost use Rattle.fieldlist.specs.Answer.{Spans, words, place_of, entries_of, RightRows};
+ghost use Rattle.fieldlist.specs.Names.{Spans, words};
+ghost use Rattle.fieldlist.specs.Answer.{entries_of, RightRows};
 ghost use Rattle.judging.specs.Worth.{name_worth, field_worth, number_worth, WorthSays};
 
-use fieldlist::names::same_bytes;
+use crate::wrong::Wrong;
+use fieldlist::names::{Span, name_index};
 use fieldlist::{FieldRows, index_of};
 use letters::numbers::number_of;
 use letters::places::Place;
 
 const MOST_NAMES: usize = 128;
 
-const NO_FIELD: u32 = 24;
-
-const TOO_LARGE: u32 = 25;
-
-const ONE_NAME_MORE: u32 = 26;
-
 // 2^31: the digits of the least integer say it, behind a sign
 const LARGEST: u64 = 2147483648;
 
-// The number of a name or a field or an integer that is known; a name that is new; or the number of what is wrong.
+/// The number of a name or a field or an integer that is known; or a name that is new.
 #[derive(Clone, Copy)]
 pub enum Worth {
     Known(u32),
     New,
-    Wrong(u32),
 }
 
-// the name's number, counted from 1; 0 where it isn't among the names so far
-#[tactic(auto, using(fieldlist::proofs::SameLaws::found, crate::proofs::Cited::worth_name_index_lemmas))]
-pub fn name_index(
-    text: &[u8],
-    starts: &[usize; 128],
-    ends: &[usize; 128],
-    n: usize,
-    from: usize,
-    to: usize,
-) -> u32
-    requires n_le_most_names { (n ≤ most_names) × Spans text.now starts.now ends.now n }
-    requires from_le_to { (from ≤ to) × (to ≤ length text.now) }
-    ensures { position_of (slice from to text.now) (words text.now starts.now ends.now n)
-        ≡ place_of result }
-{
-    let mut i: usize = 0;
-    while i < n {
-        let f = starts[i];
-        let t = ends[i];
-        if same_bytes(text, from, to, text, f, t) {
-            return (i + 1) as u32;
-        }
-        i += 1;
-    }
-    0
-}
-
-// of an index from 1, 0 where there is none, and the number of names so far
-#[tactic(auto, using(crate::proofs::WorthLaws::name_new, crate::proofs::Cited::worth_of_name_lemmas))]
-fn of_name(i: u32, n: usize) -> Worth
+// of the place of a name among the n names so far
+#[tactic(auto, using(crate::proofs::WorthLaws::name_lemmas))]
+fn of_name(i: Option<usize>, n: usize) -> Result<Worth, Wrong>
+    requires { ForSome i (λ x. x < most_names) }
     ensures { result ≡ name_worth i n }
 {
-    if i != 0 {
-        return Worth::Known(i - 1);
+    match i {
+        Some(i) => Ok(Worth::Known(i as u32)),
+        None if n < MOST_NAMES => Ok(Worth::New),
+        None => Err(Wrong::OneNameMore),
     }
-    if n < MOST_NAMES {
-        return Worth::New;
-    }
-    Worth::Wrong(ONE_NAME_MORE)
 }
 
-#[tactic(auto, using(crate::proofs::Cited::worth_of_field_lemmas))]
-fn of_field(i: u32) -> Worth
+// of the place of a field's row; fields are counted from 1
+#[tactic(auto, using(crate::proofs::WorthLaws::field_lemmas))]
+fn of_field(i: Option<usize>) -> Result<Worth, Wrong>
+    requires { ForSome i (λ x. x < 16) }
     ensures { result ≡ field_worth i }
 {
-    if i == 0 {
-        return Worth::Wrong(NO_FIELD);
+    match i {
+        Some(i) => Ok(Worth::Known(i as u32 + 1)),
+        None => Err(Wrong::NoField),
     }
-    Worth::Known(i)
 }
 
-#[tactic(auto, using(crate::proofs::Cited::worth_of_number_lemmas))]
-fn of_number(n: u64) -> Worth
+#[tactic(auto, using(crate::proofs::WorthLaws::number_lemmas))]
+fn of_number(n: u64) -> Result<Worth, Wrong>
     ensures { result ≡ number_worth n }
 {
     if n > LARGEST {
-        return Worth::Wrong(TOO_LARGE);
+        return Err(Wrong::TooLarge);
     }
-    Worth::Known(n as u32)
+    Ok(Worth::Known(n as u32))
 }
 
-// the place is no bad byte
-#[tactic(auto, using(crate::proofs::WorthLaws::by_name_lem, crate::proofs::WorthLaws::by_field_lem, crate::proofs::WorthLaws::by_number, crate::proofs::Cited::worth_worth_of_lemmas))]
+/// What the token of a place is worth that is no bad byte, where these are the names so far.
 pub fn worth_of(
     text: &[u8],
     list: &[u8],
-    rows: FieldRows,
+    rows: &FieldRows,
     place: Place,
-    starts: &[usize; 128],
-    ends: &[usize; 128],
-    n: usize,
-) -> Worth
-    requires right_rows { RightRows list.now rows }
-    requires n_le_most_names { (n ≤ most_names) × Spans text.now starts.now ends.now n }
+    names: &[Span],
+) -> Result<Worth, Wrong>
+    requires right_rows { RightRows list.now rows.now }
+    requires names_bound { (length names.now ≤ most_names) × Spans text.now names.now (length names.now) }
     requires from_le_to { (place.from ≤ place.to) × (place.to ≤ length text.now) }
     requires kind_bound { place.kind < 29 }
-    ensures { WorthSays (entries_of list.now rows)
-        (words text.now starts.now ends.now n)
+    ensures { WorthSays (entries_of list.now rows.now)
+        (words text.now names.now (length names.now))
         (piece_by place.kind (slice place.from place.to text.now))
         place.kind
         result }
 {
-    let kind = place.kind;
-    let from = place.from;
-    let to = place.to;
-    match kind {
-        1 => {
-            let i = name_index(text, starts, ends, n, from, to);
-            of_name(i, n)
-        }
-        2 => {
-            let i = index_of(list, rows, text, from, to);
-            of_field(i)
-        }
-        3 => {
-            let m = number_of(text, from, to);
-            of_number(m)
-        }
-        _ => Worth::Known(0),
+    let word = &text[place.from..place.to];
+    match place.kind {
+        1 => of_name(name_index(text, names, word), names.len()),
+        2 => of_field(index_of(list, rows, word)),
+        3 => of_number(number_of(text, place.from, place.to)),
+        _ => Ok(Worth::Known(0)),
     }
 }

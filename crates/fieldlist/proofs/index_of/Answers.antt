@@ -3,5 +3,5 @@ use Rattle.fieldlist.proofs.AnswerLaws.{row-found}
 use Rattle.std.proofs.Common.{rules}
 use Rattle.fieldlist.proofs.index_of.Goals as goal
 
-pub returns : goal.returns
-returns c = search (rules, row-found)
+pub returns-clause-place : goal.returns-clause-place
+returns-clause-place c = search (rules, row-found)

@@ -5,11 +5,11 @@ use Rattle.fieldlist.proofs.names.name_index.Goals as goal
 pub loop-i-init : goal.loop-i-init
 loop-i-init c = sought-none
 
-pub returns-then-eq : goal.returns-then-eq
-returns-then-eq c = found c.requires c.loop-i.invariant c.loop-i-test.true c.eq.ensures c.if-eq.true
+pub returns-then-eq-clause-place : goal.returns-then-eq-clause-place
+returns-then-eq-clause-place c = found c.requires c.loop-i.invariant c.loop-i-test.true c.eq.ensures c.if-eq.true
 
 pub loop-i-preserved : goal.loop-i-preserved
 loop-i-preserved c = sought-more c.requires c.loop-i.invariant c.loop-i-test.true c.eq.ensures c.if-eq.false
 
-pub returns : goal.returns
-returns c = in-no-row c.loop-i.invariant c.loop-i-test.false
+pub returns-clause-place : goal.returns-clause-place
+returns-clause-place c = in-no-row c.loop-i.invariant c.loop-i-test.false
