@@ -48,14 +48,13 @@ decimal-more (suc k) h =
     rw (le-ltb (suc k) 10 h)
     (sym (before-append (suc k / 10) (suc k / 10) [] d) ∙ same-bound (suc k / 10) k (suc k / 10) d (omega arith) (omega arith))
 
-pub digits-one : (most n b : ℕ) (d e : List ℕ) (p r : Pen) → Puts most (b ∷ []) d p e r → b ≡ 48 + n → n < 10 → Puts most (decimal_of n) d p e r
-digits-one most n b d e p r v i h = puts-as most d p v (ap (λ x. x ∷ []) i ∙ decimal-one n h)
+pub digits_one : {n b : ℕ} {p r : Pen} → Puts (b ∷ []) p r → b ≡ 48 + n → n < 10 → Puts (decimal_of n) p r
+digits_one {n} v i h = puts-as v (ap (λ x. x ∷ []) i ∙ decimal-one n h)
 
-pub digits_more : (most n b : ℕ) (d e o : List ℕ) (p q r : Pen) → Puts most (decimal_of (n / 10)) d p e q → Puts most (b ∷ []) e q o r → b ≡ 48 + n % 10 → 10 ≤ n
-    → Puts most (decimal_of n) d p o r
-digits_more most n b d e o p q r v w i h = puts_then most d p v w (ap (λ x. decimal_of (n / 10) ++ (x ∷ [])) i ∙ decimal-more n h)
+pub digits_more : {n b : ℕ} {p q r : Pen} → Puts (decimal_of (n / 10)) p q → Puts (b ∷ []) q r → b ≡ 48 + n % 10 → 10 ≤ n → Puts (decimal_of n) p r
+digits_more {n} v w i h = puts_then v w (ap (λ x. decimal_of (n / 10) ++ (x ∷ [])) i ∙ decimal-more n h)
 
 -- a name that is made up
-pub made-up-puts : (most x : ℕ) (d e o : List ℕ) (p q r : Pen) → Puts most (65 ∷ []) d p e q → Puts most (decimal_of x) e q o r → Puts most (made_up x) d p o r
+pub made_up_puts : (x : ℕ) {p q r : Pen} → Puts (65 ∷ []) p q → Puts (decimal_of x) q r → Puts (made_up x) p r
 unfolding made_up
-made-up-puts most x d e o p q r v w = puts_then most d p v w refl
+made_up_puts x v w = puts_then v w refl

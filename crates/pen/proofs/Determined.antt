@@ -7,13 +7,14 @@ use Rattle.pen.specs.Draws.{Puts, Token, Marks}
 use Rattle.pen.specs.declared.Pen.{Pen}
 use Rattle.pen.proofs.DrawLaws.{drawn-one}
 
-module _ (most : ℕ) (d : List ℕ) (p : Pen) {e o : List ℕ} {r s : Pen} where
-  pub puts-one-answer : (bs : List ℕ) → Puts most bs d p e r → Puts most bs d p o s → (e ≡ o) × (r ≡ s)
-  puts-one-answer bs v w = drawn-one most (λ j. bs) (λ j. j) d e o p r s v.says w.says
+module _ (p : Pen) {r s : Pen} where
+  pub puts-one-answer : (bs : List ℕ) → Puts bs p r → Puts bs p s → (r.out.now ≡ s.out.now) × (r.place ≡ s.place)
+  puts-one-answer bs v w = drawn-one p.most (λ j. bs) (λ j. j) p.out.now r.out.now s.out.now p.place r.place s.place v.says w.says
 
-  pub token-one-answer : (k : ℕ) (bs : List ℕ) → Token most k bs d p e r → Token most k bs d p o s → (e ≡ o) × (r ≡ s)
-  token-one-answer k bs v w = drawn-one most (λ j. gap_at j k ++ bs) (λ j. k) d e o p r s v.says w.says
+  pub token-one-answer : (k : ℕ) (bs : List ℕ) → Token k bs p r → Token k bs p s → (r.out.now ≡ s.out.now) × (r.place ≡ s.place)
+  token-one-answer k bs v w = drawn-one p.most (λ j. gap_at j k ++ bs) (λ j. k) p.out.now r.out.now s.out.now p.place r.place s.place v.says w.says
 
-  pub marks-one-answer : (k : ℕ) → Marks most k d p e r → Marks most k d p o s → (e ≡ o) × (r ≡ s)
+  pub marks-one-answer : (k : ℕ) → Marks k p r → Marks k p s → (r.out.now ≡ s.out.now) × (r.place ≡ s.place)
   marks-one-answer k v w =
-      drawn-one most (λ j. behind [] [] j (mark_of k)) (λ j. last_kind j (mark_of k)) d e o p r s (v.says [] []).says (w.says [] []).says
+      drawn-one p.most (λ j. behind [] [] j (mark_of k)) (λ j. last_kind j (mark_of k)) p.out.now r.out.now s.out.now p.place r.place s.place
+      (v.says [] []).says (w.says [] []).says

@@ -1,6 +1,6 @@
 -- Drawing piece by piece: what is drawn in two goes is drawn in one. Assumes nothing.
 use Prim.Native.Nat.{ℕ, zero, suc, ◌+◌, ◌-◌, ◌≤◌, ◌<◌}
-use mathlib.Core.Path.{◌≡◌, refl, sym, ap, ◌∙◌}
+use mathlib.Core.Path.{◌≡◌, refl, sym, ap, subst, ◌∙◌}
 use mathlib.Core.List.{List, [], ◌∷◌, ◌++◌, append_assoc, append-nil}
 use native.Mathlib.Omega.{arith}
 use native.Mathlib.Nat.{add-zero, add-suc, suc-add}
@@ -9,9 +9,10 @@ use lib.Seq.{sets, take-append-le}
 use Rattle.grammar.specs.Tokens.{Tok, kind_of}
 use Rattle.writing.specs.Spell.{bytes_for}
 use Rattle.pen.specs.Behind.{gap_at, behind, last_kind}
-use Rattle.pen.specs.Draws.{Drawn, Puts, Gaps, Token, Writes, kinded}
+use Rattle.pen.specs.Draws.{Drawn, Keeps, Draws, Puts, Gaps, Token, Writes, Turns, kinded}
+use Rattle.pen.specs.declared.Place.{Place}
+use Rattle.pen.specs.declared.Place.TheVariants.{At, Over}
 use Rattle.pen.specs.declared.Pen.{Pen}
-use Rattle.pen.specs.declared.Pen.TheVariants.{At, Over}
 
 pub sets-append : (xs ys d : List ℕ) (i : ℕ) → sets (sets d i xs) (i + length xs) ys ≡ sets d i (xs ++ ys)
 sets-append [] ys d i = rw (add-zero i)
@@ -27,7 +28,7 @@ take_past (x ∷ xs) ys (suc n) h =
 
 -- ---- of any bytes
 
-pub drawn-then : (most : ℕ) (f g : ℕ → List ℕ) (k l : ℕ → ℕ) (d e o : List ℕ) (p q r : Pen) → Drawn most f k d p e q → Drawn most g l e q o r
+pub drawn-then : (most : ℕ) (f g : ℕ → List ℕ) (k l : ℕ → ℕ) (d e o : List ℕ) (p q r : Place) → Drawn most f k d p e q → Drawn most g l e q o r
     → Drawn most (λ j. f j ++ g (k j)) (λ j. l (k j)) d p o r
 drawn-then most f g k l d e o (At at j) (At b i) (At c h) v w =
     let n : length (f j ++ g (k j)) ≡ length (f j) + length (g (k j)) = length-append (f j) (g (k j)) in
@@ -59,19 +60,19 @@ drawn-then most f g k l d e o Over Over (At c h) v w = absurd w
 drawn-then most f g k l d e o Over Over Over v w = w ∙ v
 
 -- the same bytes by another name
-pub drawn-as : (most : ℕ) (f g : ℕ → List ℕ) (k l : ℕ → ℕ) (d e : List ℕ) (p r : Pen) → ((j : ℕ) → f j ≡ g j) → ((j : ℕ) → k j ≡ l j)
+pub drawn-as : (most : ℕ) (f g : ℕ → List ℕ) (k l : ℕ → ℕ) (d e : List ℕ) (p r : Place) → ((j : ℕ) → f j ≡ g j) → ((j : ℕ) → k j ≡ l j)
     → Drawn most f k d p e r → Drawn most g l d p e r
 drawn-as most f g k l d e (At at j) (At c h) s t w = (rw (← s j) w.0, rw (← s j) w.1, w.2 ∙ t j, rw (← s j) w.3)
 drawn-as most f g k l d e (At at j) Over s t w = (rw (← s j) w.0, rw (← s j) w.1)
 drawn-as most f g k l d e Over (At c h) s t w = w
 drawn-as most f g k l d e Over Over s t w = w
 
-pub drawn-none : (most : ℕ) (d : List ℕ) (p : Pen) → Drawn most (λ j. []) (λ j. j) d p d p
+pub drawn-none : (most : ℕ) (d : List ℕ) (p : Place) → Drawn most (λ j. []) (λ j. j) d p d p
 drawn-none most d (At at j) = (refl, omega arith, refl, omega arith)
 drawn-none most d Over = refl
 
 -- another kind behind it
-pub drawn-kinded : (most k : ℕ) (f : ℕ → List ℕ) (l : ℕ → ℕ) (d e : List ℕ) (p r s : Pen) → Drawn most f l d p e r → s ≡ kinded k r
+pub drawn-kinded : (most k : ℕ) (f : ℕ → List ℕ) (l : ℕ → ℕ) (d e : List ℕ) (p r s : Place) → Drawn most f l d p e r → s ≡ kinded k r
     → Drawn most f (λ j. k) d p e s
 drawn-kinded most k f l d e (At at j) (At c h) s w i = rw i (w.0, w.1, refl, w.3)
 drawn-kinded most k f l d e (At at j) Over s w i = rw i w
@@ -79,7 +80,7 @@ drawn-kinded most k f l d e Over (At c h) s w i = absurd w
 drawn-kinded most k f l d e Over Over s w i = rw i w
 
 -- one answer
-pub drawn-one : (most : ℕ) (f : ℕ → List ℕ) (k : ℕ → ℕ) (d e o : List ℕ) (p r s : Pen) → Drawn most f k d p e r → Drawn most f k d p o s → (e ≡ o) × (r ≡ s)
+pub drawn-one : (most : ℕ) (f : ℕ → List ℕ) (k : ℕ → ℕ) (d e o : List ℕ) (p r s : Place) → Drawn most f k d p e r → Drawn most f k d p o s → (e ≡ o) × (r ≡ s)
 drawn-one most f k d e o (At at j) (At a h) (At b i) v w =
     let x : a ≡ b = v.1 ∙ sym w.1 in
     let y : h ≡ i = v.2 ∙ sym w.2 in
@@ -91,58 +92,79 @@ drawn-one most f k d e o Over (At a h) s v w = absurd v
 drawn-one most f k d e o Over Over (At b i) v w = absurd w
 drawn-one most f k d e o Over Over Over v w = (v ∙ sym w, refl)
 
+-- ---- pens
+
+pub keeps-same : {p : Pen} → Keeps p p
+keeps-same = record { same_bytes = refl; same_most = refl }
+
+pub keeps-then : {p q r : Pen} → Keeps p q → Keeps q r → Keeps p r
+keeps-then k l = record { same_bytes = l.same_bytes ∙ k.same_bytes; same_most = l.same_most ∙ k.same_most }
+
+draws-then : (f g : ℕ → List ℕ) (k l : ℕ → ℕ) (p q r : Pen) → Keeps p q → Draws f k p q → Draws g l q r → Draws (λ j. f j ++ g (k j)) (λ j. l (k j)) p r
+draws-then f g k l p q r h v w =
+    drawn-then p.most f g k l p.out.now q.out.now r.out.now p.place q.place r.place v
+    (subst (λ m. Drawn m g l q.out.now q.place r.out.now r.place) h.same_most w)
+
 -- ---- bytes
 
-module _ (most : ℕ) (d : List ℕ) (p : Pen) where
-  pub puts_none : Puts most [] d p d p
-  puts_none = record { says = drawn-none most d p }
+pub puts_none : (p : Pen) → Puts [] p p
+puts_none p = record { says = drawn-none p.most p.out.now p.place; keeps = keeps-same }
 
-  pub puts-as : {xs ys e : List ℕ} {r : Pen} → Puts most xs d p e r → xs ≡ ys → Puts most ys d p e r
-  puts-as {xs} {ys} {e} {r} v i = rw (← i) v
+pub puts-as : {xs ys : List ℕ} {p r : Pen} → Puts xs p r → xs ≡ ys → Puts ys p r
+puts-as v i = rw (← i) v
 
-  pub puts_then : {xs ys zs e o : List ℕ} {q r : Pen} → Puts most xs d p e q → Puts most ys e q o r → xs ++ ys ≡ zs → Puts most zs d p o r
-  puts_then {xs} {ys} {zs} {e} {o} {q} {r} v w i =
-      rw (← i) (record { says = drawn-then most (λ j. xs) (λ j. ys) (λ j. j) (λ j. j) d e o p q r v.says w.says })
+pub puts_then : {xs ys zs : List ℕ} {p q r : Pen} → Puts xs p q → Puts ys q r → xs ++ ys ≡ zs → Puts zs p r
+puts_then {xs} {ys} {zs} {p} {q} {r} v w i =
+    rw (← i)
+    (record { says = draws-then (λ j. xs) (λ j. ys) (λ j. j) (λ j. j) p q r v.keeps v.says w.says; keeps = keeps-then v.keeps w.keeps })
 
-  -- a byte, and none for it
-  pub puts_one : {at j b : ℕ} {e : List ℕ} → p ≡ At at j → at < most → e ≡ set d at b → Puts most (b ∷ []) d p e (At (at + 1) j)
-  puts_one {at} {j} {b} {e} i l s = rw i (record { says = (s, omega arith, refl, omega arith) })
+-- a byte, and none for it
+pub drawn-byte : (most at j b : ℕ) (d e : List ℕ) → at < most → e ≡ set d at b → Drawn most (λ i. b ∷ []) (λ i. i) d (At at j) e (At (at + 1) j)
+drawn-byte most at j b d e l s = (s, omega arith, refl, omega arith)
 
-  pub puts-over : {at j b : ℕ} → p ≡ At at j → most ≤ at → Puts most (b ∷ []) d p d Over
-  puts-over {at} {j} {b} i l = let z : most - at ≡ 0 = omega arith in rw i (record { says = (rw z refl, omega arith) })
+pub drawn-over : (most at j b : ℕ) (d : List ℕ) → most ≤ at → Drawn most (λ i. b ∷ []) (λ i. i) d (At at j) d Over
+drawn-over most at j b d l = let z : most - at ≡ 0 = omega arith in (rw z refl, omega arith)
 
-  pub puts-past : {bs : List ℕ} → p ≡ Over → Puts most bs d p d Over
-  puts-past {bs} i = rw i (record { says = refl })
+pub puts_one : {b at j : ℕ} (p r : Pen) → p.place ≡ At at j → at < p.most → r.place ≡ At (at + 1) j → r.out.now ≡ set p.out.now at b → Keeps p r → Puts (b ∷ []) p r
+puts_one {b} {at} {j} p r i l h s k = record { says = rw (i, h) (drawn-byte p.most at j b p.out.now r.out.now l s); keeps = k }
 
-  -- ---- a token
+pub puts_over : {b at j : ℕ} (p r : Pen) → p.place ≡ At at j → p.most ≤ at → r.place ≡ Over → r.out.now ≡ p.out.now → Keeps p r → Puts (b ∷ []) p r
+puts_over {b} {at} {j} p r i l h s k = record { says = rw (i, h, s) (drawn-over p.most at j b p.out.now l); keeps = k }
 
-  pub token-of : {k : ℕ} {bs e o : List ℕ} {q r s : Pen} → Gaps most k d p e q → Puts most bs e q o r → s ≡ kinded k r → Token most k bs d p o s
-  token-of {k} {bs} {e} {o} {q} {r} {s} v w i =
+pub puts_past : {bs : List ℕ} (p : Pen) → p.place ≡ Over → Puts bs p p
+puts_past {bs} p i = record { says = rw i refl; keeps = keeps-same }
+
+-- ---- a token
+
+pub token_of : {k : ℕ} {bs : List ℕ} {p q r s : Pen} → Gaps k p q → Puts bs q r → Turns k r s → Token k bs p s
+token_of {k} {bs} {p} {q} {r} {s} v w t =
+    record {
+      says =
+          drawn-kinded p.most k (λ j. gap_at j k ++ bs) (λ j. j) p.out.now s.out.now p.place r.place s.place
+          (rw t.bytes (draws-then (λ j. gap_at j k) (λ j. bs) (λ j. j) (λ j. j) p q r v.keeps v.says w.says)) t.place;
+      keeps = keeps-then v.keeps (keeps-then w.keeps t.keeps);
+    }
+
+module _ (names fields : List (List ℕ)) where
+  pub token-writes : {k : ℕ} {bs : List ℕ} {p r : Pen} (t : Tok) → Token k bs p r → k ≡ kind_of t → bs ≡ bytes_for names fields t
+      → Writes names fields (t ∷ []) p r
+  unfolding behind last_kind
+  token-writes {k} {bs} {p} {r} t v i h =
       record {
         says =
-            drawn-kinded most k (λ j. gap_at j k ++ bs) (λ j. j) d o p r s
-            (drawn-then most (λ j. gap_at j k) (λ j. bs) (λ j. j) (λ j. j) d e o p q r v.says w.says) i;
+            drawn-as p.most (λ j. gap_at j k ++ bs) (λ j. behind names fields j (t ∷ [])) (λ j. k) (λ j. last_kind j (t ∷ [])) p.out.now r.out.now p.place r.place
+            (λ j. rw (i, h) (ap (λ x. gap_at j (kind_of t) ++ x) (sym (append-nil (bytes_for names fields t)))))
+            (λ j. i)
+            v.says;
+        keeps = v.keeps;
       }
 
-  module _ (names fields : List (List ℕ)) where
-    pub token-writes : {k : ℕ} {bs e : List ℕ} {r : Pen} (t : Tok) → Token most k bs d p e r → k ≡ kind_of t → bs ≡ bytes_for names fields t
-        → Writes most names fields (t ∷ []) d p e r
-    unfolding behind last_kind
-    token-writes {k} {bs} {e} {r} t v i h =
-        record {
-          says =
-              drawn-as most (λ j. gap_at j k ++ bs) (λ j. behind names fields j (t ∷ [])) (λ j. k) (λ j. last_kind j (t ∷ [])) d e p r
-              (λ j. rw (i, h) (ap (λ x. gap_at j (kind_of t) ++ x) (sym (append-nil (bytes_for names fields t)))))
-              (λ j. i)
-              v.says;
-        }
+  pub writes-none : (p : Pen) → Writes names fields [] p p
+  unfolding behind last_kind
+  writes-none p = record { says = drawn-none p.most p.out.now p.place; keeps = keeps-same }
 
-    pub writes-none : Writes most names fields [] d p d p
-    unfolding behind last_kind
-    writes-none = record { says = drawn-none most d p }
-
-    pub writes_as : {ts us : List Tok} {e : List ℕ} {r : Pen} → Writes most names fields ts d p e r → ts ≡ us → Writes most names fields us d p e r
-    writes_as {ts} {us} {e} {r} v i = rw (← i) v
+  pub writes_as : {ts us : List Tok} {p r : Pen} → Writes names fields ts p r → ts ≡ us → Writes names fields us p r
+  writes_as v i = rw (← i) v
 
 -- ---- tokens in a row
 
@@ -160,13 +182,12 @@ module _ (names fields : List (List ℕ)) where
   last-append [] us j = refl
   last-append (t ∷ ts) us j = last-append ts us (kind_of t)
 
-  module _ (most : ℕ) (d : List ℕ) (p : Pen) where
-    pub writes_then : {ts us : List Tok} {e o : List ℕ} {q r : Pen} → Writes most names fields ts d p e q → Writes most names fields us e q o r
-        → Writes most names fields (ts ++ us) d p o r
-    writes_then {ts} {us} {e} {o} {q} {r} v w =
-        record {
-          says =
-              drawn-as most _ (λ j. behind names fields j (ts ++ us)) _ (λ j. last_kind j (ts ++ us)) d o p r (behind-append ts us) (last-append ts us)
-              (drawn-then most (λ j. behind names fields j ts) (λ j. behind names fields j us) (λ j. last_kind j ts) (λ j. last_kind j us) d e o p q r
-              v.says w.says);
-        }
+  pub writes_then : {ts us : List Tok} {p q r : Pen} → Writes names fields ts p q → Writes names fields us q r → Writes names fields (ts ++ us) p r
+  writes_then {ts} {us} {p} {q} {r} v w =
+      record {
+        says =
+            drawn-as p.most _ (λ j. behind names fields j (ts ++ us)) _ (λ j. last_kind j (ts ++ us)) p.out.now r.out.now p.place r.place
+            (behind-append ts us) (last-append ts us)
+            (draws-then (λ j. behind names fields j ts) (λ j. behind names fields j us) (λ j. last_kind j ts) (λ j. last_kind j us) p q r v.keeps v.says w.says);
+        keeps = keeps-then v.keeps w.keeps;
+      }

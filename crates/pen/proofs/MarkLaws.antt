@@ -2,14 +2,12 @@
 use Prim.Native.Nat.{ℕ, zero, suc}
 use mathlib.Core.Path.{◌≡◌, refl}
 use mathlib.Core.List.{List, [], ◌∷◌}
-use lib.Seq.{slice}
 use borrow.Author.Tests.{ne_eqb}
 use Rattle.grammar.specs.Tokens.{mark, kind_of, Spelling, spelling}
-use Rattle.writing.specs.Spell.{spelled_as, bytes_for}
+use Rattle.writing.specs.Spell.{marks, spelled_as, bytes_for}
 use Rattle.pen.specs.Behind.{mark_of}
-use Rattle.pen.specs.Draws.{Token, Writes, Marks, Spelled}
+use Rattle.pen.specs.Draws.{Token, Writes, Marks}
 use Rattle.pen.specs.declared.Pen.{Pen}
-use Rattle.pen.specs.declared.marks.Word.{Word}
 use Rattle.pen.proofs.DrawLaws.{token-writes, writes-none}
 
 -- no spelling has this kind
@@ -22,20 +20,16 @@ unfolding spelled_as
 absent k [] h = refl
 absent k (spelling w j ∷ rest) h = rw (ne_eqb k j h.0) (absent k rest h.1)
 
-module _ (most : ℕ) (d : List ℕ) (p : Pen) where
-  pub no-mark : (k : ℕ) → k ≡ 0 → Marks most k d p d p
-  unfolding mark_of
-  no-mark k e = record { says = λ names fields. rw e (writes-none most d p names fields) }
+pub no_mark : {k : ℕ} (p : Pen) → k ≡ 0 → Marks k p p
+unfolding mark_of
+no_mark p e = record { says = λ names fields. rw e (writes-none names fields p) }
 
-  mark-as : (k : ℕ) (names fields : List (List ℕ)) (e : List ℕ) (r : Pen) → (k ≡ 0 → ⊥) → Writes most names fields (mark k ∷ []) d p e r
-      → Writes most names fields (mark_of k) d p e r
-  unfolding mark_of
-  mark-as zero names fields e r f w = absurd (f refl)
-  mark-as (suc k) names fields e r f w = w
+mark-as : (k : ℕ) (names fields : List (List ℕ)) (p r : Pen) → (k ≡ 0 → ⊥) → Writes names fields (mark k ∷ []) p r → Writes names fields (mark_of k) p r
+unfolding mark_of
+mark-as zero names fields p r f w = absurd (f refl)
+mark-as (suc k) names fields p r f w = w
 
-  pub mark-there : (k : ℕ) (w : Word) (e : List ℕ) (r : Pen) → (k ≡ 0 → ⊥) → Spelled k w → Token most k (slice 0 w.len w.bytes) d p e r → Marks most k d p e r
-  unfolding kind_of bytes_for
-  mark-there k w e r f s t =
-      record {
-        says = λ names fields. mark-as k names fields e r f (token-writes most d p names fields (mark k) t refl s.is);
-      }
+pub mark_there : {k : ℕ} {bs : List ℕ} {p r : Pen} → Token k bs p r → bs ≡ spelled_as k marks → (k ≡ 0 → ⊥) → Marks k p r
+unfolding kind_of bytes_for
+mark_there {k} {bs} {p} {r} t s f =
+    record { says = λ names fields. mark-as k names fields p r f (token-writes names fields (mark k) t refl s) }

@@ -1,85 +1,176 @@
-// A pen that writes tokens as bytes, with the gaps between them: where the next byte goes and the kind of the last token, by value. It writes at most
-// `most` bytes; those past the end of what is lent fall away, so that with nothing lent it counts.
+//! A pen that writes tokens as bytes, with the gaps between them.
 #![tactic(auto)]
 
 mod gaps;
+pub mod kinds;
 mod marks;
-pub mod tokens;
 
-ghost use Rattle.std.specs.Prelude.{◌≡◌, [], ◌∷◌, ◌+◌, ◌≤◌, length, set};
-ghost use Rattle.std.proofs.Math.Seq.{slice};
-ghost use Rattle.writing.specs.Spell.{decimal_of};
-ghost use Rattle.pen.specs.Draws.{Puts, kinded};
+ghost use Rattle.std.specs.Prelude.{◌≡◌, [], ◌∷◌, ◌+◌, ◌≤◌, set};
+ghost use Rattle.writing.specs.Spell.{decimal_of, made_up};
+ghost use Rattle.pen.specs.declared.Place.TheVariants.{At};
+ghost use Rattle.pen.specs.Draws.{Puts, Gaps, Token, Marks, Turns, end_of};
 
-#[derive(Clone, Copy)]
-pub enum Pen {
-    // where the next byte goes, and the kind of the last token, 0 where there is none
+use crate::gaps::is_tight;
+use crate::kinds::{NAME, NUMBER};
+use crate::marks::spelling;
+
+/// Where a pen stands.
+#[derive(Clone, Copy, Debug, PartialEq, Eq)]
+pub enum Place {
+    /// before this byte, behind a token of this kind; 0 where there is none
     At(usize, u32),
-    // the text is longer than it may be
+    /// the text is longer than it may be
     Over,
 }
 
-fn store(out: &mut [u8], at: usize, b: u8)
-    ensures { out.new ≡ set out.old at b }
+/// A pen on lent bytes. It writes at most `most` bytes; those past the end of what is lent fall away, so that with
+/// nothing lent it counts.
+#[derive(Drop)]
+pub struct Pen<'a> {
+    pub out: &'a mut [u8],
+    pub most: usize,
+    pub place: Place,
+}
+
+fn store(out: &mut [u8], at: usize, byte: u8)
+    ensures { out.new ≡ set out.old at byte }
 {
     if at < out.len() {
-        out[at] = b;
+        out[at] = byte;
     }
-}
-
-pub fn put(out: &mut [u8], most: usize, p: Pen, b: u8) -> Pen
-    ensures { Puts most (b ∷ []) out.old p out.new result }
-{
-    match p {
-        Pen::Over => Pen::Over,
-        Pen::At(at, j) => {
-            if most <= at {
-                return Pen::Over;
-            }
-            store(out, at, b);
-            Pen::At(at + 1, j)
-        }
-    }
-}
-
-// The bytes of s from index `from` up to `to`.
-#[tactic(auto, using(crate::proofs::RunLaws::run_none, crate::proofs::RunLaws::run_more, crate::proofs::Cited::put_run_lemmas))]
-pub fn put_run(out: &mut [u8], most: usize, p: Pen, s: &[u8], from: usize, to: usize) -> Pen
-    requires { (from ≤ to) × (to ≤ length s.now) }
-    ensures { Puts most (slice from to s.now) out.old p out.new result }
-{
-    let mut pen = p;
-    let mut i = from;
-    while i < to {
-        pen = put(out, most, pen, s[i]);
-        i += 1;
-    }
-    pen
 }
 
 fn digit(n: u64) -> u8
     requires { n ≤ 9 }
     ensures { result ≡ 48 + n }
 {
-    48 + n as u8
+    b'0' + n as u8
 }
 
-#[tactic(auto, using(crate::proofs::DecimalLaws::digits_more, crate::proofs::Cited::put_decimal_lemmas))]
-pub fn put_decimal(out: &mut [u8], most: usize, p: Pen, n: u64) -> Pen
-    ensures { Puts most (decimal_of n) out.old p out.new result }
-{
-    if n < 10 {
-        return put(out, most, p, digit(n));
+impl<'a> Pen<'a> {
+    /// A pen before the first token.
+    pub fn new(out: &'a mut [u8], most: usize) -> Pen<'a>
+        ensures same_reference { result.out.ghost_name ≡ out.entry.ghost_name }
+        ensures same_bytes { result.out.now ≡ out.old }
+        ensures most { result.most ≡ most }
+        ensures place { result.place ≡ At 0 0 }
+    {
+        Pen {
+            out,
+            most,
+            place: Place::At(0, kinds::NONE),
+        }
     }
-    let q = put_decimal(out, most, p, n / 10);
-    put(out, most, q, digit(n % 10))
-}
 
-pub fn with_kind(p: Pen, k: u32) -> Pen
-    ensures { result ≡ kinded k p }
-{
-    match p {
-        Pen::Over => Pen::Over,
-        Pen::At(at, _) => Pen::At(at, k),
+    /// How many bytes are written; none where the text is longer than it may be.
+    pub fn end(&self) -> Option<usize>
+        ensures { result ≡ end_of self.now.place }
+    {
+        match self.place {
+            Place::At(at, _) => Some(at),
+            Place::Over => None,
+        }
+    }
+
+    /// One byte of a token.
+    #[tactic(auto, using(crate::proofs::Cited::put_lemmas))]
+    pub fn put(&mut self, byte: u8)
+        ensures { Puts (byte ∷ []) self.old self.new }
+    {
+        let Place::At(at, last) = self.place else {
+            return;
+        };
+        if self.most <= at {
+            self.place = Place::Over;
+            return;
+        }
+        store(self.out, at, byte);
+        self.place = Place::At(at + 1, last);
+    }
+
+    /// Bytes of a token.
+    #[tactic(auto, using(crate::proofs::RunLaws::run_none, crate::proofs::RunLaws::run_more, crate::proofs::RunLaws::run_all))]
+    pub fn put_bytes(&mut self, bytes: &[u8])
+        ensures { Puts bytes.now self.old self.new }
+    {
+        for byte in bytes {
+            self.put(*byte);
+        }
+    }
+
+    /// A number's digits.
+    #[tactic(auto, using(crate::proofs::DecimalLaws::digits_one, crate::proofs::DecimalLaws::digits_more))]
+    pub fn put_decimal(&mut self, n: u64)
+        ensures { Puts (decimal_of n) self.old self.new }
+    {
+        if n < 10 {
+            self.put(digit(n));
+            return;
+        }
+        self.put_decimal(n / 10);
+        self.put(digit(n % 10));
+    }
+
+    // the gap before a token of this kind
+    #[tactic(auto, using(crate::proofs::Cited::put_gap_lemmas))]
+    fn put_gap(&mut self, next: u32)
+        ensures { Gaps next self.old self.new }
+    {
+        let Place::At(_, last) = self.place else {
+            return;
+        };
+        if last == kinds::NONE || is_tight(last, next) {
+            return;
+        }
+        self.put(b' ');
+    }
+
+    // the token that was put is of this kind
+    fn turn(&mut self, kind: u32)
+        ensures { Turns kind self.old self.new }
+    {
+        if let Place::At(at, _) = self.place {
+            self.place = Place::At(at, kind);
+        }
+    }
+
+    /// A token of a kind, with the gap before it.
+    #[tactic(auto, using(crate::proofs::DrawLaws::token_of))]
+    pub fn put_token(&mut self, kind: u32, bytes: &[u8])
+        ensures { Token kind bytes.now self.old self.new }
+    {
+        self.put_gap(kind);
+        self.put_bytes(bytes);
+        self.turn(kind);
+    }
+
+    /// A reserved word or a symbol by its kind; nothing for 0.
+    #[tactic(auto, using(crate::proofs::Cited::put_mark_lemmas))]
+    pub fn put_mark(&mut self, kind: u32)
+        ensures { Marks kind self.old self.new }
+    {
+        if kind != kinds::NONE {
+            self.put_token(kind, spelling(kind));
+        }
+    }
+
+    #[tactic(auto, using(crate::proofs::DrawLaws::token_of))]
+    pub fn put_number(&mut self, n: u64)
+        ensures { Token 3 (decimal_of n) self.old self.new }
+    {
+        self.put_gap(NUMBER);
+        self.put_decimal(n);
+        self.turn(NUMBER);
+    }
+
+    /// The name that is made up for this number.
+    #[tactic(auto, using(crate::proofs::DrawLaws::token_of, crate::proofs::DecimalLaws::made_up_puts))]
+    pub fn put_name(&mut self, x: u64)
+        ensures { Token 1 (made_up x) self.old self.new }
+    {
+        self.put_gap(NAME);
+        self.put(b'A');
+        self.put_decimal(x);
+        self.turn(NAME);
     }
 }

@@ -1,6 +1,0 @@
--- `pen::put_decimal` meets its contract: the number falls to its tenth part. Assumes nothing.
-use Rattle.pen.proofs.+put_decimal.Given as goal
-
--- proposed from what the function passes where it calls itself
-abbrev pub decreases-put_decimal : goal.decreases-put_decimal
-decreases-put_decimal l = l.n
