@@ -6,7 +6,7 @@ use mathlib.Core.List.{List, [], ◌∷◌, ◌++◌}
 use native.Mathlib.Omega.{arith}
 use lib.Dec.{ltb}
 use borrow.Author.Tests.{lt-ltb, le-ltb, ltb-false}
-use Rattle.writing.specs.Spell.{last_digit, decimal_before, decimal_of, made_up}
+use Rattle.writing.specs.Spell.{last_digit, decimal_before, decimal_of}
 use Rattle.pen.specs.Draws.{Puts}
 use Rattle.pen.specs.declared.Pen.{Pen}
 use Rattle.pen.proofs.DrawLaws.{puts-as, puts_then}
@@ -53,8 +53,3 @@ digits_one {n} v i h = puts-as v (ap (λ x. x ∷ []) i ∙ decimal-one n h)
 
 pub digits_more : {n b : ℕ} {p q r : Pen} → Puts (decimal_of (n / 10)) p q → Puts (b ∷ []) q r → b ≡ 48 + n % 10 → 10 ≤ n → Puts (decimal_of n) p r
 digits_more {n} v w i h = puts_then v w (ap (λ x. decimal_of (n / 10) ++ (x ∷ [])) i ∙ decimal-more n h)
-
--- a name that is made up
-pub made_up_puts : (x : ℕ) {p q r : Pen} → Puts (65 ∷ []) p q → Puts (decimal_of x) q r → Puts (made_up x) p r
-unfolding made_up
-made_up_puts x v w = puts_then v w refl

@@ -145,6 +145,10 @@ token_of {k} {bs} {p} {q} {r} {s} v w t =
       keeps = keeps-then v.keeps (keeps-then w.keeps t.keeps);
     }
 
+-- by a letter and what follows it
+pub lettered : {k b : ℕ} {bs : List ℕ} {p q r s t : Pen} → Gaps k p q → Puts (b ∷ []) q r → Puts bs r s → Turns k s t → Token k (b ∷ bs) p t
+lettered v w x t = token_of v (puts_then w x refl) t
+
 module _ (names fields : List (List ℕ)) where
   pub token-writes : {k : ℕ} {bs : List ℕ} {p r : Pen} (t : Tok) → Token k bs p r → k ≡ kind_of t → bs ≡ bytes_for names fields t
       → Writes names fields (t ∷ []) p r

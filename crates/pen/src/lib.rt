@@ -6,12 +6,12 @@ pub mod kinds;
 mod marks;
 
 ghost use Rattle.std.specs.Prelude.{◌≡◌, [], ◌∷◌, ◌+◌, ◌≤◌, set};
-ghost use Rattle.writing.specs.Spell.{decimal_of, made_up};
+ghost use Rattle.writing.specs.Spell.{decimal_of, made_up, made_up_field};
 ghost use Rattle.pen.specs.declared.Place.TheVariants.{At};
 ghost use Rattle.pen.specs.Draws.{Puts, Gaps, Token, Marks, Turns, end_of};
 
 use crate::gaps::is_tight;
-use crate::kinds::{NAME, NUMBER};
+use crate::kinds::{FIELD_NAME, NAME, NUMBER};
 use crate::marks::spelling;
 
 /// Where a pen stands.
@@ -163,14 +163,30 @@ impl<'a> Pen<'a> {
         self.turn(NUMBER);
     }
 
-    /// The name that is made up for this number.
-    #[tactic(auto, using(crate::proofs::DrawLaws::token_of, crate::proofs::DecimalLaws::made_up_puts))]
+    // a letter and a number's digits
+    #[tactic(auto, using(crate::proofs::DrawLaws::lettered))]
+    fn put_lettered(&mut self, kind: u32, letter: u8, n: u64)
+        ensures { Token kind (letter ∷ decimal_of n) self.old self.new }
+    {
+        self.put_gap(kind);
+        self.put(letter);
+        self.put_decimal(n);
+        self.turn(kind);
+    }
+
+    /// The name that is made up for a number: A0, A1, ..
+    #[tactic(auto, unfolding(writing::specs::Spell::made_up))]
     pub fn put_name(&mut self, x: u64)
         ensures { Token 1 (made_up x) self.old self.new }
     {
-        self.put_gap(NAME);
-        self.put(b'A');
-        self.put_decimal(x);
-        self.turn(NAME);
+        self.put_lettered(NAME, b'A', x);
+    }
+
+    /// The field's name that is made up for a number: a0, a1, ..
+    #[tactic(auto, unfolding(writing::specs::Spell::made_up_field))]
+    pub fn put_field_name(&mut self, i: u64)
+        ensures { Token 2 (made_up_field i) self.old self.new }
+    {
+        self.put_lettered(FIELD_NAME, b'a', i);
     }
 }
