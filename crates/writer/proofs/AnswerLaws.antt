@@ -1,14 +1,14 @@
 -- The answer, path by path. Assumes nothing.
 use Prim.Native.Nat.{ℕ, zero, suc, ◌+◌, ◌<◌, ◌≤◌}
 use mathlib.Core.Path.{◌≡◌, refl, sym, ap, subst, ◌∙◌}
-use mathlib.Core.Bool.{Bool, true, false, not, ◌&&◌}
+use mathlib.Core.Bool.{Bool, true, false, ◌&&◌}
 use mathlib.Core.List.{List, [], ◌∷◌, map}
 use native.Mathlib.Omega.{arith}
 use native.Mathlib.Decide.{ℕ_discrete}
 use lib.ListN.{length, get_or}
 use lib.Seq.{slice}
 use Rattle.laws.specs.Bools.{and_both, TrueIff}
-use Rattle.laws.specs.UpTo.{up_to, up_to-same}
+use Rattle.laws.specs.UpTo.{up_to}
 use Rattle.rules.specs.Image.{most_fields, fields_of}
 use Rattle.rules.specs.State.{size}
 use Rattle.rules.specs.Scope.{Names, has}
@@ -17,19 +17,20 @@ use Rattle.rules.specs.declared.Verdict.{Verdict}
 use Rattle.rules.specs.declared.Verdict.TheVariants.{Accepted, Refused as RefusedBy}
 use Rattle.rules.proofs.GoodFacts.{Good}
 use Rattle.rules.proofs.Good.{good}
-use Rattle.rules.proofs.TreeKinds.{◌&◌, Each, each_at}
 use Rattle.checklaws.specs.Bits.{bit, Shows}
 use Rattle.grammar.specs.FieldList.{entry, word_of}
-use Rattle.writing.specs.Spell.{last_digit, decimal_before, decimal_of, made_up_field}
+use Rattle.writing.specs.Spell.{made_up_field}
 use Rattle.fieldlist.specs.Answer.{words, Spans, entries_of}
 use Rattle.fieldlist.specs.Answer as fieldlist
 use Rattle.fieldlist.specs.declared.FieldRows.{FieldRows}
 use Rattle.fieldlist.proofs.Uses.{is_right, is-wrong, codes-of}
 use Rattle.writer.specs.declared.WriteError.{WriteError}
 use Rattle.std.specs.Prelude.{Result, Ok, Err}
-use Rattle.writer.specs.declared.WriteError.TheVariants.{BadImage, BadList, OtherCodes, TooShort}
-use Rattle.writer.specs.Walk.{fields_for}
-use Rattle.writer.specs.Answer.{every_name, verdict, codes_of, Words, made-up, listed, Answers, written, bad-image, bad-list, other-codes, too-short, Said, Spelling, SameCodes, FieldsSay}
+use Rattle.writer.specs.declared.WriteError.TheVariants.{BadImage, BadList, OtherCodes}
+use Rattle.writer.specs.declared.fields.Fields.{Fields}
+use Rattle.writer.specs.declared.fields.Fields.TheVariants.{MadeUp}
+use Rattle.writer.specs.Fields.{words_for}
+use Rattle.writer.specs.Answer.{every_name, verdict, codes_of, Words, made-up, listed, Answers, written, bad-image, bad-list, other-codes, too-short, Said, Spells, SameCodes, FieldsSay}
 use Rattle.writer.proofs.CodeLaws.{same_count}
 
 -- ---- every name is visible
@@ -63,81 +64,23 @@ shows-every =
       high = λ x l. all-at _ 64 x all-bits l ∙ sym (sees-every (64 + x) (omega arith));
     }
 
--- ---- words that are made up
-
-abbrev starts : List ℕ
-starts = 0 ∷ 2 ∷ 4 ∷ 6 ∷ 8 ∷ 10 ∷ 12 ∷ 14 ∷ 16 ∷ 18 ∷ 20 ∷ 23 ∷ 26 ∷ 29 ∷ 32 ∷ 35 ∷ []
-
-abbrev ends : List ℕ
-ends = 2 ∷ 4 ∷ 6 ∷ 8 ∷ 10 ∷ 12 ∷ 14 ∷ 16 ∷ 18 ∷ 20 ∷ 23 ∷ 26 ∷ 29 ∷ 32 ∷ 35 ∷ 38 ∷ []
-
-abbrev spellings : List ℕ
-spellings = 97 ∷ 48 ∷ 97 ∷ 49 ∷ 97 ∷ 50 ∷ 97 ∷ 51 ∷ 97 ∷ 52 ∷ 97 ∷ 53 ∷ 97 ∷ 54 ∷ 97 ∷ 55 ∷ 97 ∷ 56 ∷ 97 ∷ 57 ∷ 97 ∷ 49 ∷ 48 ∷ 97 ∷ 49 ∷ 49 ∷ 97 ∷ 49 ∷ 50 ∷ 97 ∷ 49 ∷ 51 ∷ 97 ∷ 49 ∷ 52 ∷ 97 ∷ 49 ∷ 53 ∷ []
-
--- the sixteen of them
-abbrev MadeUp : ℕ → Type 0
-MadeUp i = (slice (get_or starts i 0) (get_or ends i 0) spellings ≡ made_up_field i) × (get_or starts i 0 ≤ get_or ends i 0) × (get_or ends i 0 ≤ length spellings)
-
-sixteen : Each MadeUp 0 16
-unfolding made_up_field decimal_of decimal_before last_digit
-sixteen =
-    (refl, omega arith, omega arith)
-    & (refl, omega arith, omega arith)
-    & (refl, omega arith, omega arith)
-    & (refl, omega arith, omega arith)
-    & (refl, omega arith, omega arith)
-    & (refl, omega arith, omega arith)
-    & (refl, omega arith, omega arith)
-    & (refl, omega arith, omega arith)
-    & (refl, omega arith, omega arith)
-    & (refl, omega arith, omega arith)
-    & (refl, omega arith, omega arith)
-    & (refl, omega arith, omega arith)
-    & (refl, omega arith, omega arith)
-    & (refl, omega arith, omega arith)
-    & (refl, omega arith, omega arith)
-    & (refl, omega arith, omega arith)
-    & tt
-
-made_at : (i : ℕ) → i < 16 → MadeUp i
-made_at i l = each_at MadeUp 0 16 i sixteen (omega arith) l
-
-pub made-spans : (img : List ℕ) → Good img → Spans spellings starts ends (fields_of img)
-made-spans img g =
-    let f = g.sized.few-fields in
-    record { forward = λ i l. (made_at i (omega arith)).1; within = λ i l. (made_at i (omega arith)).2 }
-
-made-words : (img : List ℕ) → Good img → fields_for img spellings starts ends ≡ up_to made_up_field (fields_of img)
-unfolding words
-made-words img g = let f = g.sized.few-fields in up_to-same _ made_up_field (fields_of img) (λ k l. (made_at k (omega arith)).0)
-
 -- ---- the answer with these words
 
 said-answers : (img list d e : List ℕ) (ws : List (List ℕ)) (r : Result ℕ WriteError) → verdict img ≡ Accepted → Words img list ws → Said img ws d r e → Answers img list d r e
 said-answers img list d e ws (Ok n) a w s = written a w s.0 s.1 s.2
 said-answers img list d e ws (Err k) a w s = rw (s.0, s.2) (too-short a w s.1)
 
-pub made-answers : (img list d e : List ℕ) (r : Result ℕ WriteError) → Good img → list ≡ [] → Spelling img (fields_for img spellings starts ends) d r e → FieldsSay img list d r e
-made-answers img list d e r g z s =
+pub made_answers : (img list d e : List ℕ) (r : Result ℕ WriteError) (fields : Fields) → list ≡ [] → fields ≡ MadeUp → Spells img (words_for img fields) d r e → FieldsSay img list d r e
+made_answers img list d e r fields z m s =
     record {
-      says = λ a.
-          said-answers img list d e (up_to made_up_field (fields_of img)) r a (made-up z)
-          (subst (λ ws. Said img ws d r e) (made-words img g) s.says);
+      says = λ a. said-answers img list d e (up_to made_up_field (fields_of img)) r a (made-up z) (subst (λ fs. Said img (words_for img fs) d r e) m s.says);
     }
 
 -- ---- with a list
 
-not-true : (b : Bool) → not b ≡ true → b ≡ false
-not-true true e = sym e
-not-true false e = refl
-
-not-false : (b : Bool) → not b ≡ false → b ≡ true
-not-false true e = refl
-not-false false e = sym e
-
-pub no-list : (list : List ℕ) → length list ≡ 0 → list ≡ []
-no-list [] e = refl
-no-list (b ∷ list) e = absurd (omega arith)
+pub no_list : (list : List ℕ) → length list ≡ 0 → list ≡ []
+no_list [] e = refl
+no_list (b ∷ list) e = absurd (omega arith)
 
 is-list : (list : List ℕ) → (length list ≡ 0 → ⊥) → list ≡ [] → ⊥
 is-list list n e = n (ap length e)
@@ -154,28 +97,28 @@ pub rows_few : (list : List ℕ) (r : FieldRows) → fieldlist.Answers list r �
 rows_few list r a e = (is_right a e).few
 
 module _ (img list : List ℕ) (r : FieldRows) (a : fieldlist.Answers list r) where
-  pub list-wrong : (d : List ℕ) → (r.why ≡ 0 → ⊥) → FieldsSay img list d (Err BadList) d
-  list-wrong d n = record { says = λ v. bad-list v (is-wrong a n) }
+  pub list_wrong : (d : List ℕ) → (r.why ≡ 0 → ⊥) → FieldsSay img list d (Err BadList) d
+  list_wrong d n = record { says = λ v. bad-list v (is-wrong a n) }
 
   module _ (e : r.why ≡ 0) (b : Bool) (s : SameCodes img r.codes r.count b) where
-    pub codes-other : (d : List ℕ) → (length list ≡ 0 → ⊥) → not b ≡ true → FieldsSay img list d (Err OtherCodes) d
-    codes-other d n i =
-        let f : up_to (λ k. get_or r.codes k 0) r.count ≡ codes_of img → ⊥ = subst (λ t. TrueIff t (up_to (λ k. get_or r.codes k 0) r.count ≡ codes_of img)) (not-true b i) s.says in
+    pub codes_other : (d : List ℕ) → (length list ≡ 0 → ⊥) → b ≡ false → FieldsSay img list d (Err OtherCodes) d
+    codes_other d n i =
+        let f : up_to (λ k. get_or r.codes k 0) r.count ≡ codes_of img → ⊥ = subst (λ t. TrueIff t (up_to (λ k. get_or r.codes k 0) r.count ≡ codes_of img)) i s.says in
         record { says = λ v. other-codes v (is-list list n) (is_right a e).listed (λ q. f (sym (codes-of list r) ∙ q)) }
 
-    module _ (i : not b ≡ false) where
+    module _ (i : b ≡ true) where
       same : up_to (λ k. get_or r.codes k 0) r.count ≡ codes_of img
-      same = subst (λ t. TrueIff t (up_to (λ k. get_or r.codes k 0) r.count ≡ codes_of img)) (not-false b i) s.says
+      same = subst (λ t. TrueIff t (up_to (λ k. get_or r.codes k 0) r.count ≡ codes_of img)) i s.says
 
       as_many : r.count ≡ fields_of img
       as_many = same_count img r.codes r.count same
 
-      pub list-spans : Spans list r.from r.to (fields_of img)
-      list-spans = rw (← as_many) (is_right a e).spans
+      pub list_stands : Spans list r.from r.to (fields_of img) × (fields_of img ≤ most_fields)
+      list_stands = rw (← as_many) ((is_right a e).spans, (is_right a e).few)
 
-      pub list-answers : (d o : List ℕ) (t : Result ℕ WriteError) → Spelling img (fields_for img list r.from r.to) d t o → FieldsSay img list d t o
-      list-answers d o t w =
-          let q : fields_for img list r.from r.to ≡ map word_of (entries_of list r) = rw (← as_many) (sym (names_of list r)) in
+      pub list_answers : (d o : List ℕ) (t : Result ℕ WriteError) → Spells img (words list r.from r.to (fields_of img)) d t o → FieldsSay img list d t o
+      list_answers d o t w =
+          let q : words list r.from r.to (fields_of img) ≡ map word_of (entries_of list r) = rw (← as_many) (sym (names_of list r)) in
           record {
             says = λ v.
                 said-answers img list d o (map word_of (entries_of list r)) t v (listed (is_right a e).listed (codes-of list r ∙ same))
@@ -188,8 +131,8 @@ module _ (img : List ℕ) (v : Verdict) (s : (visible : Names) → Shows 1844674
   pub checked : v ≡ Accepted → Good img
   checked e = good every_name size img (sym (s every_name shows-every) ∙ e)
 
-  pub refused-image : (list d : List ℕ) (k p : ℕ) → v ≡ RefusedBy k p → Answers img list d (Err BadImage) d
-  refused-image list d k p e = bad-image (sym (s every_name shows-every) ∙ e)
+  pub refused_image : (list d : List ℕ) (k p : ℕ) → v ≡ RefusedBy k p → Answers img list d (Err BadImage) d
+  refused_image list d k p e = bad-image (sym (s every_name shows-every) ∙ e)
 
-  pub accepted-image : (list d o : List ℕ) (t : Result ℕ WriteError) → v ≡ Accepted → FieldsSay img list d t o → Answers img list d t o
-  accepted-image list d o t e f = f.says (sym (s every_name shows-every) ∙ e)
+  pub accepted_image : (list d o : List ℕ) (t : Result ℕ WriteError) → v ≡ Accepted → FieldsSay img list d t o → Answers img list d t o
+  accepted_image list d o t e f = f.says (sym (s every_name shows-every) ∙ e)

@@ -16,18 +16,18 @@ use Rattle.writer.specs.Answer.{codes_of, SameCodes}
 pub record CodesTo (img codes : List ℕ) (i : ℕ) : Type 0 where
   pub is : (k : ℕ) → k < i → get_or codes k 0 ≡ code_at img k
 
-pub codes-none : (img codes : List ℕ) → CodesTo img codes 0
-codes-none img codes = record { is = λ k l. absurd (omega arith) }
+pub codes_none : (img codes : List ℕ) → CodesTo img codes 0
+codes_none img codes = record { is = λ k l. absurd (omega arith) }
 
-pub codes-more : (img codes : List ℕ) (i x : ℕ) → CodesTo img codes i → x ≡ code_at img i → x ≡ get_or codes i 0 → CodesTo img codes (i + 1)
-codes-more img codes i x c e f =
+pub codes_more : (img codes : List ℕ) (i x : ℕ) → CodesTo img codes i → x ≡ code_at img i → x ≡ get_or codes i 0 → CodesTo img codes (i + 1)
+codes_more img codes i x c e f =
     record {
       is = λ k l. ⊎_elim (λ (j : k ≡ i). rw j (sym f ∙ e)) (λ (j : k < i). c.is k j) (eq-or-lt_of_le {n = k} {m = i} (omega arith));
     }
 
 module _ (img codes : List ℕ) (count f : ℕ) (h : f ≡ fields_of img) where
-  pub count-differs : (f ≡ count → ⊥) → SameCodes img codes count false
-  count-differs n =
+  pub count_differs : (f ≡ count → ⊥) → SameCodes img codes count false
+  count_differs n =
       record {
         says = λ e.
             let l = ap length e in
@@ -37,8 +37,8 @@ module _ (img codes : List ℕ) (count f : ℕ) (h : f ≡ fields_of img) where
       }
 
   module _ (s : f ≡ count) where
-    pub code-differs : (i x : ℕ) → i < count → x ≡ code_at img i → (x ≡ get_or codes i 0 → ⊥) → SameCodes img codes count false
-    code-differs i x l e n =
+    pub code_differs : (i x : ℕ) → i < count → x ≡ code_at img i → (x ≡ get_or codes i 0 → ⊥) → SameCodes img codes count false
+    code_differs i x l e n =
         record {
           says = λ q.
               let a = up_to-at (λ k. get_or codes k 0) count i l in

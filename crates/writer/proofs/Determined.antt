@@ -12,8 +12,7 @@ use Rattle.grammar.specs.FieldList.{Entry, word_of, code_of, Listed, no_row}
 use Rattle.grammar.proofs.Listing.{listed-one}
 use Rattle.writing.specs.Spell.{made_up_field}
 use Rattle.writer.specs.declared.WriteError.{WriteError}
-use Rattle.std.specs.Prelude.{Result, Ok, Err}
-use Rattle.writer.specs.declared.WriteError.TheVariants.{BadImage, BadList, OtherCodes, TooShort}
+use Rattle.std.specs.Prelude.{Result, Ok}
 use Rattle.writer.specs.Answer.{codes_of, Words, made-up, listed, text_of, Answers, written, bad-image, bad-list, other-codes, too-short}
 
 -- ---- the fields' words

@@ -28,7 +28,6 @@ use Rattle.writing.specs.Back.{text_of as spelled_with}
 use Rattle.writing.proofs.ImageBack.{image-back}
 use Rattle.writer.specs.declared.WriteError.{WriteError}
 use Rattle.std.specs.Prelude.{Result, Ok, Err}
-use Rattle.writer.specs.declared.WriteError.TheVariants.{BadImage, BadList, OtherCodes, TooShort}
 use Rattle.writer.specs.Walk.{names_for}
 use Rattle.writer.specs.Answer.{every_name, verdict, codes_of, Words, made-up, listed, text_of, Answers, written, bad-image, bad-list, other-codes, too-short}
 use Rattle.writer.proofs.Determined.{words-one}

@@ -1,10 +1,12 @@
 -- What stands before a command: the test of a while or an if, and whether it ends with an operand. Assumes nothing.
-use Prim.Native.Nat.{ℕ, ◌<◌}
-use mathlib.Core.Path.{◌≡◌, refl, sym, ap, subst, ◌∙◌}
+use Prim.Native.Nat.{ℕ, ◌<◌, ◌≤◌}
+use mathlib.Core.Path.{◌≡◌, refl, sym, subst, ◌∙◌}
 use mathlib.Core.Bool.{Bool, true, false, ◌||◌}
 use mathlib.Core.Option.{some}
 use mathlib.Core.List.{List, [], ◌∷◌}
+use mathlib.Core.Logic.{◌⊎◌, inl, inr, ⊎_elim}
 use native.Mathlib.Omega.{arith}
+use native.Mathlib.Nat.{eq-or-lt_of_le}
 use lib.Dec.{eqb}
 use types.Run.{OneOf, miss}
 use denote.Enum.Declared.{tag_of}
@@ -36,49 +38,62 @@ module _ (node : ℕ → Node) (t : ℕ) (h : kind_of (node t).tag ≡ some a_te
       h
       refl
 
-module _ (img : List ℕ) (t : ℕ) (x : Node) (w : NodeRead img t x) (h : kind_of (node_at img t).tag ≡ some a_test) where
-  pub compares-equal : x.tag ≡ 18 → true ≡ test_ends (tree_at (node_at img) t)
-  compares-equal e =
-      let i : (node_at img t).tag ≡ 18 = sym (ap (λ (y : Node). y.tag) w.is) ∙ e in
-      rw (← ends-tag (node_at img) t h, i) refl
+module _ (img : List ℕ) (t k : ℕ) (i : k ≡ (node_at img t).tag) (h : kind_of (node_at img t).tag ≡ some a_test) where
+  compares_equal : k ≡ 18 → true ≡ test_ends (tree_at (node_at img) t)
+  compares_equal e =
+      let j : (node_at img t).tag ≡ 18 = sym i ∙ e in
+      rw (← ends-tag (node_at img) t h, j) refl
 
-  pub compares-less : (x.tag ≡ 18 → ⊥) → eqb x.tag 19 ≡ test_ends (tree_at (node_at img) t)
-  compares-less f =
-      let i = ap (λ (y : Node). y.tag) w.is in
-      rw (← ends-tag (node_at img) t h, ← i, ne_eqb x.tag 18 f) refl
+  compares_less : k ≡ 19 → true ≡ test_ends (tree_at (node_at img) t)
+  compares_less e =
+      let j : (node_at img t).tag ≡ 19 = sym i ∙ e in
+      rw (← ends-tag (node_at img) t h, j) refl
+
+  compares_none : (k ≡ 18 → ⊥) → (k ≡ 19 → ⊥) → false ≡ test_ends (tree_at (node_at img) t)
+  compares_none e f = rw (← ends-tag (node_at img) t h, ← i, ne_eqb k 18 e, ne_eqb k 19 f) refl
+
+-- a while or an if
+while-or-if : (k : ℕ) → 39 ≤ k → k < 41 → (k ≡ 39) ⊎ (k ≡ 40)
+while-or-if k a b = ⊎_elim (λ (e : 39 ≡ k). inl (sym e)) (λ (l : 39 < k). inr (omega arith)) (eq-or-lt_of_le {n = 39} {m = k} a)
 
 module _ (img : List ℕ) (g : Good img) (n : ℕ) (h : n < nodes_of img) (x : Node) (w : NodeRead img n x) where
   fits : {k : ℕ} → x.tag ≡ k → GoodRow img n (row_of k) x
   fits t = subst (λ (j : ℕ). GoodRow img n (row_of j) x) t (rw w.is (g.nodes n h))
 
-  pub while-test : x.tag ≡ 39 → x.a < nodes_of img
+  abbrev HasTest : Type 0
+  HasTest = (x.a < nodes_of img) × (kind_of (node_at img x.a).tag ≡ some a_test)
+
+  of-while : x.tag ≡ 39 → HasTest
   unfolding row_of row_in line_of line_in tags
-  while-test t = let f = fits t in let l = f.0.0 in omega arith
+  of-while t = let f = fits t in let l = f.0.0 in (omega arith, f.0.1)
 
-  pub while-kind : x.tag ≡ 39 → kind_of (node_at img x.a).tag ≡ some a_test
+  of-if : x.tag ≡ 40 → HasTest
   unfolding row_of row_in line_of line_in tags
-  while-kind t = (fits t).0.1
+  of-if t = let f = fits t in let l = f.0.0 in (omega arith, f.0.1)
 
-  pub if-test : x.tag ≡ 40 → x.a < nodes_of img
-  unfolding row_of row_in line_of line_in tags
-  if-test t = let f = fits t in let l = f.0.0 in omega arith
+  has-test : 39 ≤ x.tag → x.tag < 41 → HasTest
+  has-test a b = ⊎_elim of-while of-if (while-or-if x.tag a b)
 
-  pub if-kind : x.tag ≡ 40 → kind_of (node_at img x.a).tag ≡ some a_test
-  unfolding row_of row_in line_of line_in tags
-  if-kind t = (fits t).0.1
+  pub test_inside : 39 ≤ x.tag → x.tag < 41 → x.a < nodes_of img
+  test_inside a b = (has-test a b).0
 
-module _ (at : ℕ → Tree) (k a : ℕ) (r : Bool) where
-  pub before-while : k ≡ 39 → r ≡ test_ends (at a) → r ≡ test_before at k a
-  unfolding test_before
-  before-while e i = rw e i
+  module _ (a : 39 ≤ x.tag) (b : x.tag < 41) (k : ℕ) (i : k ≡ (node_at img x.a).tag) where
+    before-is : {r : Bool} → r ≡ test_ends (tree_at (node_at img) x.a) → r ≡ test_before (tree_at (node_at img)) x.tag x.a
+    unfolding test_before
+    before-is {r} e = ⊎_elim (λ (t : x.tag ≡ 39). rw t e) (λ (t : x.tag ≡ 40). rw t e) (while-or-if x.tag a b)
 
-  pub before-if : k ≡ 40 → r ≡ test_ends (at a) → r ≡ test_before at k a
-  unfolding test_before
-  before-if e i = rw e i
+    pub before_equal : k ≡ 18 → true ≡ test_before (tree_at (node_at img)) x.tag x.a
+    before_equal e = before-is (compares_equal img x.a k i (has-test a b).1 e)
 
-pub before-none : (at : ℕ → Tree) (k a : ℕ) → (k ≡ 39 → ⊥) → (k ≡ 40 → ⊥) → false ≡ test_before at k a
+    pub before_less : k ≡ 19 → true ≡ test_before (tree_at (node_at img)) x.tag x.a
+    before_less e = before-is (compares_less img x.a k i (has-test a b).1 e)
+
+    pub before_no : (k ≡ 18 → ⊥) → (k ≡ 19 → ⊥) → false ≡ test_before (tree_at (node_at img)) x.tag x.a
+    before_no e f = before-is (compares_none img x.a k i (has-test a b).1 e f)
+
+pub before_none : (at : ℕ → Tree) (k a : ℕ) → (k ≡ 39 → ⊥) → (k ≡ 40 → ⊥) → false ≡ test_before at k a
 unfolding test_before
-before-none at k a e i = rw (ne_eqb k 39 e, ne_eqb k 40 i) refl
+before_none at k a e i = rw (ne_eqb k 39 e, ne_eqb k 40 i) refl
 
 pub passes-behind : (how : How) (f : Bool) → how ≡ Behind → f ≡ passed how f
 unfolding passed
@@ -98,4 +113,4 @@ passes-no Callee f h = refl
 passes-no Target f h = refl
 passes-no Behind f h = absurd (miss (0 ∷ 1 ∷ 2 ∷ 3 ∷ 4 ∷ 5 ∷ 6 ∷ 7 ∷ 8 ∷ 9 ∷ []) 10 tt h)
 
-pub ruleset tests = (compares-equal, compares-less, while-test, while-kind, if-test, if-kind, before-while, before-if, before-none, passes-behind, passes-no)
+pub ruleset tests = (test_inside, before_equal, before_less, before_no, before_none, passes-behind, passes-no)

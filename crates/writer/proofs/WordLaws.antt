@@ -1,7 +1,7 @@
 -- The words of a node: each is what its form asks for, and the children among them fall. Assumes nothing.
 use Prim.Native.Nat.{ℕ, ◌+◌, ◌*◌, ◌<◌}
 use mathlib.Core.Path.{◌≡◌, refl}
-use mathlib.Core.Bool.{Bool}
+use mathlib.Core.Bool.{Bool, false}
 use mathlib.Core.Option.{some}
 use mathlib.Core.List.{List, [], ◌∷◌}
 use native.Mathlib.Omega.{arith}
@@ -18,7 +18,8 @@ use Rattle.writer.specs.declared.forms.How.{How}
 use Rattle.writer.specs.declared.forms.How.TheVariants.{Nothing, Name, Field, Whole, Left, LeftOfDot, Right, RightOfDot, Callee, Target, Behind}
 use Rattle.writer.specs.declared.forms.Form.{Form}
 use Rattle.writer.specs.Forms.{forms, form_in, form_of, asked, child, word_tokens}
-use Rattle.writer.specs.Ends.{Ends, asks_by}
+use Rattle.writer.specs.declared.ends.Edges.{Edges}
+use Rattle.writer.specs.Ends.{edges, Ends, asks_by}
 use Rattle.writer.specs.Walk.{WordFits, ChildFits, word_weight}
 use Rattle.writer.proofs.FormLaws.{has-row}
 use Rattle.writer.proofs.EndLaws.{asks-tree}
@@ -65,23 +66,23 @@ module _ (img : List ℕ) (n : ℕ) (h : n < nodes_of img) where
         let r = has-row img g n h in
         rw (e, w.is) (row-fitting (node_at img n).tag r.0 r.1 (node_at img n) (g.nodes n h))
 
-    pub word-a : WordFits img k.a x.a
-    word-a = fitting.0.0
+    pub word_a : WordFits img k.a x.a
+    word_a = fitting.0.0
 
-    pub word-b : WordFits img k.b x.b
-    word-b = fitting.1.0
+    pub word_b : WordFits img k.b x.b
+    word_b = fitting.1.0
 
-    pub word-c : WordFits img k.c x.c
-    word-c = fitting.2.0
+    pub word_c : WordFits img k.c x.c
+    word_c = fitting.2.0
 
-    pub falls-a : {t : ℕ} → 3 * n + 1 ≡ t → word_weight k.a x.a < t
-    falls-a i = rw (← i) fitting.0.1
+    pub falls_a : {t : ℕ} → 3 * n + 1 ≡ t → word_weight k.a x.a < t
+    falls_a i = rw (← i) fitting.0.1
 
-    pub falls-b : {t : ℕ} → 3 * n + 1 ≡ t → word_weight k.b x.b < t
-    falls-b i = rw (← i) fitting.1.1
+    pub falls_b : {t : ℕ} → 3 * n + 1 ≡ t → word_weight k.b x.b < t
+    falls_b i = rw (← i) fitting.1.1
 
-    pub falls-c : {t : ℕ} → 3 * n + 1 ≡ t → word_weight k.c x.c < t
-    falls-c i = rw (← i) fitting.2.1
+    pub falls_c : {t : ℕ} → 3 * n + 1 ≡ t → word_weight k.c x.c < t
+    falls_c i = rw (← i) fitting.2.1
 
 -- ---- words that are children
 
@@ -113,43 +114,43 @@ module _ (img : List ℕ) where
   child_fits Target w o f = f
   child_fits Behind w o f = f
 
-  pub child-node : (how : How) (w : ℕ) → ChildFits img how w → w < nodes_of img
-  child-node Nothing w f = f
-  child-node Name w f = f
-  child-node Field w f = f
-  child-node Whole w f = f
-  child-node Left w f = f.0
-  child-node LeftOfDot w f = f.0
-  child-node Right w f = f.0
-  child-node RightOfDot w f = f.0
-  child-node Callee w f = f.0
-  child-node Target w f = f.0
-  child-node Behind w f = f
+  pub child_node : (how : How) (w : ℕ) → ChildFits img how w → w < nodes_of img
+  child_node Nothing w f = f
+  child_node Name w f = f
+  child_node Field w f = f
+  child_node Whole w f = f
+  child_node Left w f = f.0
+  child_node LeftOfDot w f = f.0
+  child_node Right w f = f.0
+  child_node RightOfDot w f = f.0
+  child_node Callee w f = f.0
+  child_node Target w f = f.0
+  child_node Behind w f = f
 
-  pub asks-any : (ends : List ℕ) (how : How) (w : ℕ) (f : Bool) → Ends img ends → ChildFits img how w
-      → asks_by how (node_at img w).tag (get_or ends w 0) f ≡ asked how (exp_of w (tree_at (node_at img) w)) f
+  pub asks-any : (ends : List Edges) (how : How) (w : ℕ) (f : Bool) → Ends img ends → ChildFits img how w
+      → asks_by how (node_at img w).tag (get_or ends w (edges false false)) f ≡ asked how (exp_of w (tree_at (node_at img) w)) f
   unfolding asked
   asks-any ends Nothing w f u c = refl
   asks-any ends Name w f u c = refl
   asks-any ends Field w f u c = refl
   asks-any ends Whole w f u c = refl
-  asks-any ends Left w f u c = asks-tree (node_at img) w c.1 Left (get_or ends w 0) f (u.is w c.0)
-  asks-any ends LeftOfDot w f u c = asks-tree (node_at img) w c.1 LeftOfDot (get_or ends w 0) f (u.is w c.0)
-  asks-any ends Right w f u c = asks-tree (node_at img) w c.1 Right (get_or ends w 0) f (u.is w c.0)
-  asks-any ends RightOfDot w f u c = asks-tree (node_at img) w c.1 RightOfDot (get_or ends w 0) f (u.is w c.0)
-  asks-any ends Callee w f u c = asks-tree (node_at img) w c.1 Callee (get_or ends w 0) f (u.is w c.0)
-  asks-any ends Target w f u c = asks-tree (node_at img) w c.1 Target (get_or ends w 0) f (u.is w c.0)
+  asks-any ends Left w f u c = asks-tree (node_at img) w c.1 Left (get_or ends w (edges false false)) f (u.is w c.0)
+  asks-any ends LeftOfDot w f u c = asks-tree (node_at img) w c.1 LeftOfDot (get_or ends w (edges false false)) f (u.is w c.0)
+  asks-any ends Right w f u c = asks-tree (node_at img) w c.1 Right (get_or ends w (edges false false)) f (u.is w c.0)
+  asks-any ends RightOfDot w f u c = asks-tree (node_at img) w c.1 RightOfDot (get_or ends w (edges false false)) f (u.is w c.0)
+  asks-any ends Callee w f u c = asks-tree (node_at img) w c.1 Callee (get_or ends w (edges false false)) f (u.is w c.0)
+  asks-any ends Target w f u c = asks-tree (node_at img) w c.1 Target (get_or ends w (edges false false)) f (u.is w c.0)
   asks-any ends Behind w f u c = refl
 
-pub child-falls : (how : How) (w t : ℕ) → OneOf (3 ∷ 4 ∷ 5 ∷ 6 ∷ 7 ∷ 8 ∷ 9 ∷ 10 ∷ []) (tag_of the_type how) → word_weight how w ≡ t → 3 * w + 2 < t
-child-falls Nothing w t o e = absurd (miss (3 ∷ 4 ∷ 5 ∷ 6 ∷ 7 ∷ 8 ∷ 9 ∷ 10 ∷ []) 0 tt o)
-child-falls Name w t o e = absurd (miss (3 ∷ 4 ∷ 5 ∷ 6 ∷ 7 ∷ 8 ∷ 9 ∷ 10 ∷ []) 1 tt o)
-child-falls Field w t o e = absurd (miss (3 ∷ 4 ∷ 5 ∷ 6 ∷ 7 ∷ 8 ∷ 9 ∷ 10 ∷ []) 2 tt o)
-child-falls Whole w t o e = omega arith
-child-falls Left w t o e = omega arith
-child-falls LeftOfDot w t o e = omega arith
-child-falls Right w t o e = omega arith
-child-falls RightOfDot w t o e = omega arith
-child-falls Callee w t o e = omega arith
-child-falls Target w t o e = omega arith
-child-falls Behind w t o e = omega arith
+pub child_falls : (how : How) (w t : ℕ) → OneOf (3 ∷ 4 ∷ 5 ∷ 6 ∷ 7 ∷ 8 ∷ 9 ∷ 10 ∷ []) (tag_of the_type how) → word_weight how w ≡ t → 3 * w + 2 < t
+child_falls Nothing w t o e = absurd (miss (3 ∷ 4 ∷ 5 ∷ 6 ∷ 7 ∷ 8 ∷ 9 ∷ 10 ∷ []) 0 tt o)
+child_falls Name w t o e = absurd (miss (3 ∷ 4 ∷ 5 ∷ 6 ∷ 7 ∷ 8 ∷ 9 ∷ 10 ∷ []) 1 tt o)
+child_falls Field w t o e = absurd (miss (3 ∷ 4 ∷ 5 ∷ 6 ∷ 7 ∷ 8 ∷ 9 ∷ 10 ∷ []) 2 tt o)
+child_falls Whole w t o e = omega arith
+child_falls Left w t o e = omega arith
+child_falls LeftOfDot w t o e = omega arith
+child_falls Right w t o e = omega arith
+child_falls RightOfDot w t o e = omega arith
+child_falls Callee w t o e = omega arith
+child_falls Target w t o e = omega arith
+child_falls Behind w t o e = omega arith

@@ -1,7 +1,7 @@
 -- What `write` answers: an image's tree as text, `spell` of `write_cmd`, with names made up by their numbers, A0, A1, .., and with the fields' words in a list
 -- of order 1's form, or made up, a0, a1, .., where the list is empty. An image is written if it breaks none of the rules 1 to 8: with every name
 -- visible rule 9 can't be broken. A refusal has a number of its own, writes nothing, and comes in the order of the numbers. Assumes nothing.
-use Rattle.std.specs.Prelude.{ℕ, ◌<◌, ◌≤◌, ◌≡◌, Bool, List, [], ◌++◌, map, length, get_or, drop, Result, Ok, Err}
+use Rattle.std.specs.Prelude.{ℕ, ◌<◌, ◌≤◌, ◌≡◌, Bool, List, [], ◌++◌, map, length, get_or, drop, Option, Some, None, Result, Ok, Err}
 use Rattle.laws.specs.Bools.{TrueIff}
 use Rattle.laws.specs.UpTo.{up_to}
 use Rattle.rules.specs.Image.{most_names, fields_of, code_at, node_at, cmd_at}
@@ -14,9 +14,12 @@ use Rattle.rules.specs.declared.Verdict.TheVariants.{Accepted, Refused as Refuse
 use Rattle.grammar.specs.FieldList.{Entry, word_of, code_of, Listed}
 use Rattle.writing.specs.WriteTokens.{write_cmd}
 use Rattle.writing.specs.Spell.{spell, made_up_field}
-use Rattle.pen.specs.declared.Pen.{Pen}
-use Rattle.pen.specs.declared.Pen.TheVariants.{At, Over}
 use Rattle.writer.specs.Walk.{names_for}
+use Rattle.std.proofs.lemmas.List.Edits.{sets}
+use Rattle.pen.specs.Draws.{Keeps}
+use Rattle.pen.specs.declared.Pen.{Pen}
+use Rattle.pen.specs.declared.Place.{Place}
+use Rattle.pen.specs.declared.Place.TheVariants.{At, Over}
 use Rattle.writer.specs.declared.WriteError.{WriteError}
 use Rattle.writer.specs.declared.WriteError.TheVariants.{BadImage, BadList, OtherCodes, TooShort}
 
@@ -66,20 +69,25 @@ abbrev pub Said : List ℕ → List (List ℕ) → List ℕ → Result ℕ Write
 Said img words lent (Ok n) out = (n ≡ length (text_of img words)) × (n ≤ length lent) × (out ≡ text_of img words ++ drop n lent)
 Said img words lent (Err k) out = (k ≡ TooShort) × (length lent < length (text_of img words)) × (out ≡ lent)
 
-pub record Spelling (img : List ℕ) (words : List (List ℕ)) (lent : List ℕ) (r : Result ℕ WriteError) (out : List ℕ) : Type 0 where
+pub record Spells (img : List ℕ) (words : List (List ℕ)) (lent : List ℕ) (r : Result ℕ WriteError) (out : List ℕ) : Type 0 where
   pub says : Said img words lent r out
 
+-- a text from nothing on
+abbrev pub DrawsText : ℕ → List ℕ → List ℕ → List ℕ → Place → Type 0
+DrawsText most text d e (At k l) = (e ≡ sets d 0 text) × (k ≡ length text) × (length text ≤ most)
+DrawsText most text d e Over = most < length text
+
+pub record WritesText (text : List ℕ) (p r : Pen) : Type 0 where
+  pub says : DrawsText p.most text p.out.now r.out.now r.place
+  pub keeps : Keeps p r
+
 -- the length of a text, if it is at most `most`
-abbrev pub Counts : ℕ → List ℕ → Pen → Type 0
-Counts most text (At at j) = length text ≤ most
-Counts most text Over = most < length text
+abbrev pub Counts : ℕ → List ℕ → Option ℕ → Type 0
+Counts most text (Some n) = (n ≡ length text) × (n ≤ most)
+Counts most text None = most < length text
 
-pub record Counted (most : ℕ) (text : List ℕ) (p : Pen) : Type 0 where
-  pub says : Counts most text p
-
-abbrev pub at_of : Pen → ℕ
-at_of (At at j) = at
-at_of Over = 0
+pub record Counted (most : ℕ) (text : List ℕ) (r : Option ℕ) : Type 0 where
+  pub says : Counts most text r
 
 -- the codes of a list are the image's, or not
 pub record SameCodes (img codes : List ℕ) (count : ℕ) (r : Bool) : Type 0 where

@@ -1,4 +1,4 @@
--- What the way through the nodes writes: the tokens of a node's tree, with names made up by their numbers and the fields' words in a list. Assumes nothing.
+-- What the way through the nodes writes: the tokens of a node's tree, with names made up by their numbers, and with these words for the fields. Assumes nothing.
 use Rattle.std.specs.Prelude.{ℕ, ◌+◌, ◌*◌, ◌<◌, ◌≤◌, ◌≡◌, Bool, List, [], ◌∷◌}
 use Rattle.std.proofs.Math.Option.{some}
 use Rattle.laws.specs.UpTo.{up_to}
@@ -7,7 +7,6 @@ use Rattle.rules.specs.Image.{nodes_of, names_of, fields_of, node_at, tree_at, k
 use Rattle.grammar.specs.Tokens.{field_name}
 use Rattle.writing.specs.WriteTokens.{write_int}
 use Rattle.writing.specs.Spell.{made_up}
-use Rattle.fieldlist.specs.Answer.{words}
 use Rattle.pen.specs.Draws.{Writes}
 use Rattle.pen.specs.declared.Pen.{Pen}
 use Rattle.writer.specs.declared.forms.How.{How}
@@ -15,30 +14,27 @@ use Rattle.writer.specs.declared.forms.How.TheVariants.{Nothing, Name, Field, Wh
 use Rattle.writer.specs.Forms.{write_tree, word_tokens, child}
 
 -- an integer has neither names nor fields
-pub record WritesInt (most b : ℕ) (d : List ℕ) (p : Pen) (e : List ℕ) (r : Pen) : Type 0 where
-  pub says : (names fields : List (List ℕ)) → Writes most names fields (write_int b) d p e r
+pub record WritesInt (b : ℕ) (p r : Pen) : Type 0 where
+  pub says : (names fields : List (List ℕ)) → Writes names fields (write_int b) p r
 
 -- a field has no names
-pub record WritesField (most : ℕ) (list from to : List ℕ) (count f : ℕ) (d : List ℕ) (p : Pen) (e : List ℕ) (r : Pen) : Type 0 where
-  pub says : (names : List (List ℕ)) → Writes most names (words list from to count) (field_name f ∷ []) d p e r
+pub record WritesField (words : List (List ℕ)) (f : ℕ) (p r : Pen) : Type 0 where
+  pub says : (names : List (List ℕ)) → Writes names words (field_name f ∷ []) p r
 
 -- ---- a node, and its words
 
 abbrev pub names_for : List ℕ → List (List ℕ)
 names_for img = up_to made_up (names_of img)
 
-abbrev pub fields_for : List ℕ → List ℕ → List ℕ → List ℕ → List (List ℕ)
-fields_for img list from to = words list from to (fields_of img)
+module _ (img : List ℕ) (words : List (List ℕ)) where
+  pub record WritesNode (n : ℕ) (f : Bool) (p r : Pen) : Type 0 where
+    pub says : Writes (names_for img) words (write_tree (tree_at (node_at img) n) f) p r
 
-module _ (img list from to : List ℕ) (most : ℕ) where
-  pub record WritesNode (n : ℕ) (f : Bool) (d : List ℕ) (p : Pen) (e : List ℕ) (r : Pen) : Type 0 where
-    pub says : Writes most (names_for img) (fields_for img list from to) (write_tree (tree_at (node_at img) n) f) d p e r
+  pub record WritesChild (how : How) (w : ℕ) (f : Bool) (p r : Pen) : Type 0 where
+    pub says : Writes (names_for img) words (child (tree_at (node_at img)) how w f) p r
 
-  pub record WritesChild (how : How) (w : ℕ) (f : Bool) (d : List ℕ) (p : Pen) (e : List ℕ) (r : Pen) : Type 0 where
-    pub says : Writes most (names_for img) (fields_for img list from to) (child (tree_at (node_at img)) how w f) d p e r
-
-  pub record WritesWord (how : How) (w : ℕ) (f : Bool) (d : List ℕ) (p : Pen) (e : List ℕ) (r : Pen) : Type 0 where
-    pub says : Writes most (names_for img) (fields_for img list from to) (word_tokens (tree_at (node_at img)) how w f) d p e r
+  pub record WritesWord (how : How) (w : ℕ) (f : Bool) (p r : Pen) : Type 0 where
+    pub says : Writes (names_for img) words (word_tokens (tree_at (node_at img)) how w f) p r
 
 -- ---- what a word has to be to be written so
 

@@ -1,31 +1,51 @@
 // How a node is written, by its tag: the marks and the words of the node in their order.
 ghost use Rattle.std.specs.Prelude.{◌≡◌};
-ghost use Rattle.writer.specs.Forms.{shaped, form_of};
+ghost use Rattle.writer.specs.Forms.{form_of, passed};
 
-// How a word of a node is written.
+use pen::kinds::{
+    ATOM, BARS, CLOSING_BRACE, CLOSING_PARENTHESIS, COLON, DOT, ELSE, EQUALS, EQUALS_SIGN, FALSE,
+    IF, LESS, MALLOC, MINUS, NONE, NULL, OPENING_BRACE, OPENING_PARENTHESIS, PROC, SEMICOLON, SKIP,
+    TRUE, VAR, WHILE,
+};
+
+/// How a word of a node is written.
 #[derive(Clone, Copy)]
 pub enum How {
     Nothing,
     Name,
     Field,
-    // a node with no parentheses around it
+    /// a node with no parentheses around it
     Whole,
-    // an expression left of a minus, a comparison or an argument
+    /// an expression left of a minus, a comparison or an argument
     Left,
-    // left of a dot
+    /// left of a dot
     LeftOfDot,
-    // right of a minus
+    /// right of a minus
     Right,
-    // right of a dot
+    /// right of a dot
     RightOfDot,
-    // what is called, and what a field of is assigned to: by what stands before the command
+    /// what is called: by what stands before the command
     Callee,
+    /// what a field of is assigned to: by what stands before the command
     Target,
-    // a command behind a test
+    /// a command behind a test
     Behind,
 }
 
-// Two marks, word a, a mark, word b, a mark, word c, a mark; a mark 0 is none.
+impl How {
+    /// Only what stands behind a test is told what stands before it.
+    #[tactic(auto, using(crate::proofs::TestLaws::tests))]
+    pub fn passes(self, front: bool) -> bool
+        ensures { result ≡ passed self front }
+    {
+        match self {
+            How::Behind => front,
+            _ => false,
+        }
+    }
+}
+
+/// Two marks, word a, a mark, word b, a mark, word c, a mark; a mark may be none.
 #[derive(Clone, Copy)]
 pub struct Form {
     pub first: u32,
@@ -38,87 +58,171 @@ pub struct Form {
     pub last: u32,
 }
 
-fn shape(
-    first: u32,
-    second: u32,
-    a: How,
-    third: u32,
-    b: How,
-    fourth: u32,
-    c: How,
-    last: u32,
-) -> Form
-    ensures { result ≡ shaped first second a third b fourth c last }
-{
-    Form {
-        first,
-        second,
-        a,
-        third,
-        b,
-        fourth,
-        c,
-        last,
-    }
-}
+const EMPTY: Form = Form {
+    first: NONE,
+    second: NONE,
+    a: How::Nothing,
+    third: NONE,
+    b: How::Nothing,
+    fourth: NONE,
+    c: How::Nothing,
+    last: NONE,
+};
 
-// An integer has no form: it is one token or two, by its value.
+/// The form of a node of this tag. An integer has none: it is one token or two, by its value.
 #[tactic(auto, using(crate::proofs::FormLaws::absent), unfolding(crate::specs::Forms::form_of, crate::specs::Forms::form_in, crate::specs::Forms::forms))]
 pub fn form_of(tag: usize) -> Form
     ensures { result ≡ form_of tag }
 {
     match tag {
         // field
-        1 => shape(0, 0, How::Field, 0, How::Nothing, 0, How::Nothing, 0),
+        1 => Form {
+            a: How::Field,
+            ..EMPTY
+        },
         // difference
-        3 => shape(0, 0, How::Left, 5, How::Right, 0, How::Nothing, 0),
+        3 => Form {
+            a: How::Left,
+            third: MINUS,
+            b: How::Right,
+            ..EMPTY
+        },
         // null
-        4 => shape(6, 0, How::Nothing, 0, How::Nothing, 0, How::Nothing, 0),
+        4 => Form {
+            first: NULL,
+            ..EMPTY
+        },
         // variable
-        5 => shape(0, 0, How::Name, 0, How::Nothing, 0, How::Nothing, 0),
+        5 => Form {
+            a: How::Name,
+            ..EMPTY
+        },
         // selection
-        6 => shape(
-            0,
-            0,
-            How::LeftOfDot,
-            23,
-            How::RightOfDot,
-            0,
-            How::Nothing,
-            0,
-        ),
+        6 => Form {
+            a: How::LeftOfDot,
+            third: DOT,
+            b: How::RightOfDot,
+            ..EMPTY
+        },
         // proc
-        7 => shape(7, 0, How::Name, 27, How::Whole, 0, How::Nothing, 0),
+        7 => Form {
+            first: PROC,
+            a: How::Name,
+            third: COLON,
+            b: How::Whole,
+            ..EMPTY
+        },
         // true
-        16 => shape(8, 0, How::Nothing, 0, How::Nothing, 0, How::Nothing, 0),
+        16 => Form {
+            first: TRUE,
+            ..EMPTY
+        },
         // false
-        17 => shape(9, 0, How::Nothing, 0, How::Nothing, 0, How::Nothing, 0),
+        17 => Form {
+            first: FALSE,
+            ..EMPTY
+        },
         // equal
-        18 => shape(0, 0, How::Left, 25, How::Whole, 0, How::Nothing, 0),
+        18 => Form {
+            a: How::Left,
+            third: EQUALS,
+            b: How::Whole,
+            ..EMPTY
+        },
         // less
-        19 => shape(0, 0, How::Left, 26, How::Whole, 0, How::Nothing, 0),
+        19 => Form {
+            a: How::Left,
+            third: LESS,
+            b: How::Whole,
+            ..EMPTY
+        },
         // var
-        32 => shape(10, 0, How::Name, 21, How::Whole, 0, How::Nothing, 0),
+        32 => Form {
+            first: VAR,
+            a: How::Name,
+            third: SEMICOLON,
+            b: How::Whole,
+            ..EMPTY
+        },
         // call
-        33 => shape(0, 0, How::Callee, 17, How::Whole, 0, How::Nothing, 18),
+        33 => Form {
+            a: How::Callee,
+            third: OPENING_PARENTHESIS,
+            b: How::Whole,
+            last: CLOSING_PARENTHESIS,
+            ..EMPTY
+        },
         // malloc
-        34 => shape(11, 17, How::Name, 0, How::Nothing, 0, How::Nothing, 18),
+        34 => Form {
+            first: MALLOC,
+            second: OPENING_PARENTHESIS,
+            a: How::Name,
+            last: CLOSING_PARENTHESIS,
+            ..EMPTY
+        },
         // assign
-        35 => shape(0, 0, How::Name, 24, How::Whole, 0, How::Nothing, 0),
+        35 => Form {
+            a: How::Name,
+            third: EQUALS_SIGN,
+            b: How::Whole,
+            ..EMPTY
+        },
         // field assign
-        36 => shape(0, 0, How::Target, 23, How::RightOfDot, 24, How::Whole, 0),
+        36 => Form {
+            a: How::Target,
+            third: DOT,
+            b: How::RightOfDot,
+            fourth: EQUALS_SIGN,
+            c: How::Whole,
+            ..EMPTY
+        },
         // skip
-        37 => shape(12, 0, How::Nothing, 0, How::Nothing, 0, How::Nothing, 0),
+        37 => Form {
+            first: SKIP,
+            ..EMPTY
+        },
         // sequence
-        38 => shape(19, 0, How::Whole, 21, How::Whole, 0, How::Nothing, 20),
+        38 => Form {
+            first: OPENING_BRACE,
+            a: How::Whole,
+            third: SEMICOLON,
+            b: How::Whole,
+            last: CLOSING_BRACE,
+            ..EMPTY
+        },
         // while
-        39 => shape(13, 0, How::Whole, 0, How::Behind, 0, How::Nothing, 0),
+        39 => Form {
+            first: WHILE,
+            a: How::Whole,
+            b: How::Behind,
+            ..EMPTY
+        },
         // if
-        40 => shape(14, 0, How::Whole, 0, How::Behind, 15, How::Whole, 0),
+        40 => Form {
+            first: IF,
+            a: How::Whole,
+            b: How::Behind,
+            fourth: ELSE,
+            c: How::Whole,
+            ..EMPTY
+        },
         // parallel
-        41 => shape(19, 0, How::Whole, 22, How::Whole, 0, How::Nothing, 20),
+        41 => Form {
+            first: OPENING_BRACE,
+            a: How::Whole,
+            third: BARS,
+            b: How::Whole,
+            last: CLOSING_BRACE,
+            ..EMPTY
+        },
         // atom
-        42 => shape(16, 17, How::Whole, 0, How::Nothing, 0, How::Nothing, 18),
-        _ => shape(0, 0, How::Nothing, 0, How::Nothing, 0, How::Nothing, 0),
+        42 => Form {
+            first: ATOM,
+            second: OPENING_PARENTHESIS,
+            a: How::Whole,
+            last: CLOSING_PARENTHESIS,
+            ..EMPTY
+        },
+        _ => EMPTY,
     }
 }

@@ -11,6 +11,8 @@ mod walk;
 ghost use Rattle.std.specs.Prelude.{◌≡◌};
 ghost use Rattle.writer.specs.Answer.{Answers, number_of};
 
+use crate::fields::write_listed;
+use image::Script;
 use rules::{SIZE, Verdict};
 
 /// Why an image is not written, in the order in which the reasons are looked for.
@@ -41,16 +43,18 @@ impl WriteError {
 }
 
 // Each of 64 names is visible.
-const EVERY: u64 = 18446744073709551615;
+const EVERY: u64 = u64::MAX;
 
 /// The image's tree as text, in the first bytes of `out`, and how many they are; an error leaves `out` as it is.
 #[tactic(auto, using(crate::proofs::AnswerLaws::checked, crate::proofs::Cited::write_lemmas))]
 pub fn write(img: &[u8], list: &[u8], out: &mut [u8]) -> Result<usize, WriteError>
     ensures { Answers img.now list.now out.old result out.new }
 {
-    let v = checker::check(img, SIZE, EVERY, EVERY);
-    match v {
+    match checker::check(img, SIZE, EVERY, EVERY) {
         Verdict::Refused(_, _) => Err(WriteError::BadImage),
-        Verdict::Accepted => crate::fields::write_listed(img, list, out),
+        Verdict::Accepted => {
+            let script = Script::new(img);
+            write_listed(&script, list, out)
+        }
     }
 }

@@ -1,107 +1,76 @@
-// The whole text: counted with nothing lent, then written.
-ghost use Rattle.std.specs.Prelude.{◌≡◌, ◌≤◌, length, Ok};
-ghost use Rattle.rules.specs.Image.{fields_of};
-ghost use Rattle.rules.proofs.GoodFacts.{Good};
-ghost use Rattle.fieldlist.specs.Answer.{Spans};
+// The whole text of a script: counted with nothing lent, then written.
+ghost use Rattle.std.specs.Prelude.{◌≡◌};
+ghost use Rattle.pen.specs.declared.Place.TheVariants.{At};
 ghost use Rattle.writer.specs.Ends.{Ends};
-ghost use Rattle.writer.specs.Walk.{fields_for};
-ghost use Rattle.writer.specs.Answer.{text_of, Spelling, Counted, at_of};
+ghost use Rattle.writer.specs.Fields.{words_for, Stands};
+ghost use Rattle.writer.specs.Answer.{text_of, Spells, Counted, WritesText};
 
 use crate::WriteError;
-use crate::ends::mark_ends;
-use crate::walk::put_node;
+use crate::ends::{Edges, PLAIN, node_end};
+use crate::fields::Fields;
+use image::Script;
 use pen::Pen;
 
-fn place(p: Pen) -> usize
-    ensures { result ≡ at_of p }
-{
-    match p {
-        Pen::At(at, _) => at,
-        Pen::Over => 0,
-    }
+/// A script with the words of its fields, and how its expressions end and begin.
+#[derive(Drop)]
+pub struct Spelling<'a> {
+    pub script: &'a Script<'a>,
+    pub fields: Fields<'a>,
+    pub ends: [Edges; 2048],
+    ghost marked: { Ends script.now ends },
+    ghost stands: { Stands script.now fields },
 }
 
-// How long the text is, if it has at most `most` bytes.
-#[tactic(auto, using(crate::proofs::Cited::spelling_count_text_lemmas))]
-fn count_text(
-    img: &[u8],
-    ends: &[u8],
-    list: &[u8],
-    from: &[usize; 16],
-    to: &[usize; 16],
-    most: usize,
-) -> Pen
-    requires good { Good img.now × Ends img.now ends.now }
-    requires spans { Spans list.now from.now to.now (fields_of img.now) }
-    ensures { Counted most (text_of img.now (fields_for img.now list.now from.now to.now)) result }
-{
-    let mut nothing = [0u8; 1];
-    let root = image::nodes(img) - 1;
-    put_node(
-        img,
-        ends,
-        list,
-        from,
-        to,
-        &mut nothing,
-        most,
-        root,
-        false,
-        Pen::At(0, 0),
-    )
-}
-
-#[tactic(auto, using(crate::proofs::TextLaws::text_says, crate::proofs::Cited::spelling_put_text_lemmas))]
-fn put_text(
-    img: &[u8],
-    ends: &[u8],
-    list: &[u8],
-    from: &[usize; 16],
-    to: &[usize; 16],
-    out: &mut [u8],
-) -> usize
-    requires good { Good img.now × Ends img.now ends.now }
-    requires spans { Spans list.now from.now to.now (fields_of img.now) }
-    requires to_in_bounds { length (text_of img.now (fields_for img.now list.now from.now to.now)) ≤ length out.old }
-    ensures { Spelling img.now (fields_for img.now list.now from.now to.now) out.old (Ok result) out.new }
-{
-    let root = image::nodes(img) - 1;
-    let most = out.len();
-    let p = put_node(
-        img,
-        ends,
-        list,
-        from,
-        to,
-        out,
-        most,
-        root,
-        false,
-        Pen::At(0, 0),
-    );
-    place(p)
-}
-
-// The text of an accepted script with these words for its fields, if there is room for it.
-pub fn spell_out(
-    img: &[u8],
-    list: &[u8],
-    from: &[usize; 16],
-    to: &[usize; 16],
-    out: &mut [u8],
-) -> Result<usize, WriteError>
-    requires good { Good img.now }
-    requires spans { Spans list.now from.now to.now (fields_of img.now) }
-    ensures { Spelling img.now (fields_for img.now list.now from.now to.now) out.old result out.new }
-{
-    let mut ends = [0u8; 2048];
-    mark_ends(img, &mut ends);
-    let p = count_text(img, &ends, list, from, to, out.len());
-    match p {
-        Pen::Over => Err(WriteError::TooShort),
-        Pen::At(_, _) => {
-            let n = put_text(img, &ends, list, from, to, out);
-            Ok(n)
+impl<'a> Spelling<'a> {
+    #[tactic(auto, using(crate::proofs::EndLaws::ends_none, crate::proofs::EndLaws::ends_more, crate::proofs::EndLaws::ends_all))]
+    pub fn new(script: &'a Script<'a>, fields: Fields<'a>) -> Spelling<'a>
+        requires { Stands script.now fields }
+        ensures script { result.script.now ≡ script.now }
+        ensures fields { result.fields ≡ fields.entry }
+    {
+        let mut ends = [PLAIN; 2048];
+        for n in 0..script.image.nodes() {
+            ends[n] = node_end(script, &ends, n);
         }
+        Spelling {
+            script,
+            fields,
+            ends,
+        }
+    }
+
+    // the whole text, by a pen that stands before the first token
+    #[tactic(auto, using(crate::proofs::TextLaws::text_written), unfolding(rules::specs::Script::root_of))]
+    fn put_text(&self, pen: &mut Pen<'_>)
+        requires { pen.old.place ≡ At 0 0 }
+        ensures { WritesText (text_of self.now.script.now (words_for self.now.script.now self.now.fields)) pen.old pen.new }
+    {
+        let script = self.script;
+        let root = script.image.nodes() - 1;
+        self.put_node(pen, root, false);
+    }
+
+    // how long the text is, if it has at most `most` bytes
+    #[tactic(auto, using(crate::proofs::TextLaws::count_says))]
+    fn length(&self, most: usize) -> Option<usize>
+        ensures { Counted most (text_of self.now.script.now (words_for self.now.script.now self.now.fields)) result }
+    {
+        let mut nothing = [0u8; 1];
+        let mut pen = Pen::new(&mut nothing, most);
+        self.put_text(&mut pen);
+        pen.end()
+    }
+
+    /// The text, if there is room for it, and how long it is.
+    #[tactic(auto, using(crate::proofs::Cited::spelling_write_lemmas))]
+    pub fn write(&self, out: &mut [u8]) -> Result<usize, WriteError>
+        ensures { Spells self.now.script.now (words_for self.now.script.now self.now.fields) out.old result out.new }
+    {
+        let Some(length) = self.length(out.len()) else {
+            return Err(WriteError::TooShort);
+        };
+        let mut pen = Pen::new(out, length);
+        self.put_text(&mut pen);
+        Ok(length)
     }
 }
