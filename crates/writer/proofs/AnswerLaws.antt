@@ -6,7 +6,6 @@ use mathlib.Core.List.{List, [], ◌∷◌, map}
 use native.Mathlib.Omega.{arith}
 use native.Mathlib.Decide.{ℕ_discrete}
 use lib.ListN.{length, get_or}
-use lib.Seq.{slice}
 use Rattle.laws.specs.Bools.{and_both, TrueIff}
 use Rattle.laws.specs.UpTo.{up_to}
 use Rattle.rules.specs.Image.{most_fields, fields_of}
@@ -20,10 +19,12 @@ use Rattle.rules.proofs.Good.{good}
 use Rattle.checklaws.specs.Bits.{bit, Shows}
 use Rattle.grammar.specs.FieldList.{entry, word_of}
 use Rattle.writing.specs.Spell.{made_up_field}
-use Rattle.fieldlist.specs.Answer.{words, Spans, entries_of}
+use Rattle.fieldlist.specs.Answer.{entries_of, RightRows, Says}
+use Rattle.fieldlist.specs.Names.{nowhere, word_at, words, Spans}
 use Rattle.fieldlist.specs.Answer as fieldlist
 use Rattle.fieldlist.specs.declared.FieldRows.{FieldRows}
-use Rattle.fieldlist.proofs.Uses.{is_right, is-wrong, codes-of}
+use Rattle.fieldlist.specs.declared.BadRow.{BadRow}
+use Rattle.fieldlist.proofs.Uses.{codes-of}
 use Rattle.writer.specs.declared.WriteError.{WriteError}
 use Rattle.std.specs.Prelude.{Result, Ok, Err}
 use Rattle.writer.specs.declared.WriteError.TheVariants.{BadImage, BadList, OtherCodes}
@@ -70,41 +71,43 @@ said-answers : (img list d e : List ℕ) (ws : List (List ℕ)) (r : Result ℕ 
 said-answers img list d e ws (Ok n) a w s = written a w s.0 s.1 s.2
 said-answers img list d e ws (Err k) a w s = rw (s.0, s.2) (too-short a w s.1)
 
-pub made_answers : (img list d e : List ℕ) (r : Result ℕ WriteError) (fields : Fields) → list ≡ [] → fields ≡ MadeUp → Spells img (words_for img fields) d r e → FieldsSay img list d r e
+no-list : (list : List ℕ) → length list ≡ 0 → list ≡ []
+no-list [] e = refl
+no-list (b ∷ list) e = absurd (omega arith)
+
+pub made_answers : (img list d e : List ℕ) (r : Result ℕ WriteError) (fields : Fields) → length list ≡ 0 → fields ≡ MadeUp → Spells img (words_for img fields) d r e
+    → FieldsSay img list d r e
 made_answers img list d e r fields z m s =
     record {
-      says = λ a. said-answers img list d e (up_to made_up_field (fields_of img)) r a (made-up z) (subst (λ fs. Said img (words_for img fs) d r e) m s.says);
+      says = λ a.
+          said-answers img list d e (up_to made_up_field (fields_of img)) r a (made-up (no-list list z)) (subst (λ fs. Said img (words_for img fs) d r e) m s.says);
     }
 
 -- ---- with a list
 
-pub no_list : (list : List ℕ) → length list ≡ 0 → list ≡ []
-no_list [] e = refl
-no_list (b ∷ list) e = absurd (omega arith)
-
-is-list : (list : List ℕ) → (length list ≡ 0 → ⊥) → list ≡ [] → ⊥
-is-list list n e = n (ap length e)
-
-names_of : (list : List ℕ) (r : FieldRows) → map word_of (entries_of list r) ≡ words list r.from r.to r.count
+names_of : (list : List ℕ) (r : FieldRows) → map word_of (entries_of list r) ≡ words list r.names r.count
 unfolding entries_of words up_to word_of
-names_of list r = go (λ i. slice (get_or r.from i 0) (get_or r.to i 0) list) (λ i. get_or r.codes i 0) r.count
+names_of list r = go (λ i. word_at list (get_or r.names i nowhere)) (λ i. get_or r.codes i 0) r.count
   where
     go : (g : ℕ → List ℕ) (h : ℕ → ℕ) (n : ℕ) → map word_of (up_to (λ i. entry (g i) (h i)) n) ≡ up_to g n
     go g h zero = refl
     go g h (suc n) = ap (g zero ∷◌) (go (λ i. g (suc i)) (λ i. h (suc i)) n)
 
-pub rows_few : (list : List ℕ) (r : FieldRows) → fieldlist.Answers list r → r.why ≡ 0 → r.count ≤ most_fields
-rows_few list r a e = (is_right a e).few
+module _ (list : List ℕ) (o : Result FieldRows BadRow) (a : fieldlist.Answers list o) where
+  is_right : (r : FieldRows) → o ≡ Ok r → RightRows list r
+  is_right r e = subst (Says list) e a.says
 
-module _ (img list : List ℕ) (r : FieldRows) (a : fieldlist.Answers list r) where
-  pub list_wrong : (d : List ℕ) → (r.why ≡ 0 → ⊥) → FieldsSay img list d (Err BadList) d
-  list_wrong d n = record { says = λ v. bad-list v (is-wrong a n) }
+  pub rows_few : (r : FieldRows) → o ≡ Ok r → r.count ≤ most_fields
+  rows_few r e = (is_right r e).few
 
-  module _ (e : r.why ≡ 0) (b : Bool) (s : SameCodes img r.codes r.count b) where
-    pub codes_other : (d : List ℕ) → (length list ≡ 0 → ⊥) → b ≡ false → FieldsSay img list d (Err OtherCodes) d
+  pub list_wrong : (img d : List ℕ) (b : BadRow) → o ≡ Err b → FieldsSay img list d (Err BadList) d
+  list_wrong img d b e = let s : Says list (Err b) = subst (Says list) e a.says in record { says = λ v. bad-list v s.1 }
+
+  module _ (img : List ℕ) (r : FieldRows) (e : o ≡ Ok r) (b : Bool) (s : SameCodes img r.codes r.count b) where
+    pub codes_other : (d : List ℕ) → (list ≡ [] → ⊥) → b ≡ false → FieldsSay img list d (Err OtherCodes) d
     codes_other d n i =
         let f : up_to (λ k. get_or r.codes k 0) r.count ≡ codes_of img → ⊥ = subst (λ t. TrueIff t (up_to (λ k. get_or r.codes k 0) r.count ≡ codes_of img)) i s.says in
-        record { says = λ v. other-codes v (is-list list n) (is_right a e).listed (λ q. f (sym (codes-of list r) ∙ q)) }
+        record { says = λ v. other-codes v n (is_right r e).listed (λ q. f (sym (codes-of list r) ∙ q)) }
 
     module _ (i : b ≡ true) where
       same : up_to (λ k. get_or r.codes k 0) r.count ≡ codes_of img
@@ -113,15 +116,15 @@ module _ (img list : List ℕ) (r : FieldRows) (a : fieldlist.Answers list r) wh
       as_many : r.count ≡ fields_of img
       as_many = same_count img r.codes r.count same
 
-      pub list_stands : Spans list r.from r.to (fields_of img) × (fields_of img ≤ most_fields)
-      list_stands = rw (← as_many) ((is_right a e).spans, (is_right a e).few)
+      pub list_stands : Spans list r.names (fields_of img) × (fields_of img ≤ most_fields)
+      list_stands = rw (← as_many) ((is_right r e).spans, (is_right r e).few)
 
-      pub list_answers : (d o : List ℕ) (t : Result ℕ WriteError) → Spells img (words list r.from r.to (fields_of img)) d t o → FieldsSay img list d t o
+      pub list_answers : (d o : List ℕ) (t : Result ℕ WriteError) → Spells img (words list r.names (fields_of img)) d t o → FieldsSay img list d t o
       list_answers d o t w =
-          let q : words list r.from r.to (fields_of img) ≡ map word_of (entries_of list r) = rw (← as_many) (sym (names_of list r)) in
+          let q : words list r.names (fields_of img) ≡ map word_of (entries_of list r) = rw (← as_many) (sym (names_of list r)) in
           record {
             says = λ v.
-                said-answers img list d o (map word_of (entries_of list r)) t v (listed (is_right a e).listed (codes-of list r ∙ same))
+                said-answers img list d o (map word_of (entries_of list r)) t v (listed (is_right r e).listed (codes-of list r ∙ same))
                 (subst (λ ws. Said img ws d t o) q w.says);
           }
 

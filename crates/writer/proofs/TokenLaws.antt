@@ -4,14 +4,14 @@ use mathlib.Core.Path.{◌≡◌, refl, sym, ap, ◌∙◌}
 use mathlib.Core.List.{List, []}
 use native.Mathlib.Omega.{arith}
 use lib.ListN.{length, get_or, take, drop}
-use lib.Seq.{slice}
 use Rattle.std.proofs.lemmas.List.{drop-take}
 use borrow.Author.Tests.{lt-ltb, le-ltb}
 use Rattle.laws.specs.UpTo.{up_to}
 use Rattle.grammar.specs.Tokens.{field_name, number, kind_of as kind_of_tok}
 use Rattle.writing.specs.WriteTokens.{write_int}
 use Rattle.writing.specs.Spell.{bytes_for, decimal_of, made_up_field}
-use Rattle.fieldlist.specs.Answer.{Spans, words}
+use Rattle.fieldlist.specs.Names.{nowhere, word_at, words, Spans}
+use Rattle.fieldlist.specs.declared.names.Span.{Span}
 use Rattle.pen.specs.Behind.{mark_of}
 use Rattle.pen.specs.Draws.{Token, Marks}
 use Rattle.pen.specs.declared.Pen.{Pen}
@@ -48,26 +48,26 @@ module _ (img : List ℕ) (fields : Fields) (f : ℕ) (h : 1 ≤ f) (l : f ≤ f
   field_made e t =
       record { says = λ names. rw e (token-writes names (words_for img MadeUp) (field_name f) t refl (up_to-get made_up_field (fields_of img) (f - 1) (omega arith))) }
 
-module _ (img list from to : List ℕ) (f : ℕ) (h : 1 ≤ f) (l : f ≤ fields_of img) where
-  module _ (s : Spans list from to (fields_of img)) where
-    pub span_forward : get_or from (f - 1) 0 ≤ get_or to (f - 1) 0
+module _ (img list : List ℕ) (names : List Span) (f : ℕ) (h : 1 ≤ f) (l : f ≤ fields_of img) where
+  abbrev here : Span
+  here = get_or names (f - 1) nowhere
+
+  module _ (s : Spans list names (fields_of img)) where
+    pub span_forward : here.from ≤ here.to
     span_forward = s.forward (f - 1) (omega arith)
 
-    pub span_within : get_or to (f - 1) 0 ≤ length list
+    pub span_within : here.to ≤ length list
     span_within = s.within (f - 1) (omega arith)
 
-  pub field_listed : (p r : Pen) → Spans list from to (fields_of img)
-      → Token 2 (take (get_or to (f - 1) 0 - get_or from (f - 1) 0) (drop (get_or from (f - 1) 0) list)) p r
-      → WritesField (words list from to (fields_of img)) f p r
+  pub field_listed : (p r : Pen) → Spans list names (fields_of img) → Token 2 (take (here.to - here.from) (drop here.from list)) p r
+      → WritesField (words list names (fields_of img)) f p r
   unfolding kind_of_tok bytes_for words
   field_listed p r s t =
-      let from-i = get_or from (f - 1) 0 in
-      let to-i = get_or to (f - 1) 0 in
-      let m : from-i + (to-i - from-i) ≡ to-i = let v = span_forward s in omega arith in
-      let e : take (to-i - from-i) (drop from-i list) ≡ slice from-i to-i list =
-      sym (drop-take from-i (to-i - from-i) list) ∙ ap (λ k. drop from-i (take k list)) m in
+      let m : here.from + (here.to - here.from) ≡ here.to = let v = span_forward s in omega arith in
+      let e : take (here.to - here.from) (drop here.from list) ≡ word_at list here =
+      sym (drop-take here.from (here.to - here.from) list) ∙ ap (λ k. drop here.from (take k list)) m in
       record {
-        says = λ names.
-            token-writes names (words list from to (fields_of img)) (field_name f) t refl
-            (e ∙ up_to-get (λ i. slice (get_or from i 0) (get_or to i 0) list) (fields_of img) (f - 1) (omega arith));
+        says = λ vs.
+            token-writes vs (words list names (fields_of img)) (field_name f) t refl
+            (e ∙ up_to-get (λ i. word_at list (get_or names i nowhere)) (fields_of img) (f - 1) (omega arith));
       }

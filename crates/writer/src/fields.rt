@@ -7,7 +7,6 @@ use crate::WriteError;
 use crate::spelling::Spelling;
 use fieldlist::FieldRows;
 use image::Script;
-use letters::classes::class_table;
 
 /// The words of the fields.
 #[derive(Clone, Copy)]
@@ -20,15 +19,15 @@ pub enum Fields<'a> {
 
 // Are these the script's codes?
 #[tactic(auto, using(crate::proofs::CodeLaws::codes_same, crate::proofs::Cited::fields_same_codes_lemmas))]
-fn same_codes(script: &Script<'_>, codes: &[usize; 16], count: usize) -> bool
-    requires { count ≤ most_fields }
-    ensures { SameCodes script.now codes.now count result }
+fn same_codes(script: &Script<'_>, rows: &FieldRows) -> bool
+    requires { rows.now.count ≤ most_fields }
+    ensures { SameCodes script.now rows.now.codes rows.now.count result }
 {
-    if script.image.fields() != count {
+    if script.image.fields() != rows.count {
         return false;
     }
-    for i in 0..count {
-        if script.image.code(i) != codes[i] {
+    for i in 0..rows.count {
+        if script.image.code(i) != rows.codes[i] {
             return false;
         }
     }
@@ -43,12 +42,10 @@ pub fn write_listed(script: &Script<'_>, list: &[u8], out: &mut [u8]) -> Result<
     if list.is_empty() {
         return Spelling::new(script, Fields::MadeUp).write(out);
     }
-    let k = class_table();
-    let rows = fieldlist::rows(&k, list);
-    if rows.why != 0 {
+    let Ok(rows) = fieldlist::rows(list) else {
         return Err(WriteError::BadList);
-    }
-    if !same_codes(script, &rows.codes, rows.count) {
+    };
+    if !same_codes(script, &rows) {
         return Err(WriteError::OtherCodes);
     }
     Spelling::new(script, Fields::Listed(list, &rows)).write(out)

@@ -48,9 +48,8 @@ impl<'a> Spelling<'a> {
         match self.fields {
             Fields::MadeUp => pen.put_field_name(f as u64 - 1),
             Fields::Listed(list, rows) => {
-                let from = rows.from[f - 1];
-                let to = rows.to[f - 1];
-                pen.put_token(FIELD_NAME, &list[from..to]);
+                let name = rows.names[f - 1];
+                pen.put_token(FIELD_NAME, &list[name.from..name.to]);
             }
         }
     }

@@ -3,4 +3,4 @@ use Rattle.writer.proofs.CodeLaws.{CodesTo}
 use Rattle.writer.proofs.fields.same_codes.Given as goal
 
 abbrev pub invariant-loop-i : goal.invariant-loop-i
-invariant-loop-i l = CodesTo l.script l.codes l.i
+invariant-loop-i l = CodesTo l.script l.rows.codes l.i

@@ -9,13 +9,7 @@ offset_bounds-rows-f c = let s = rw c.in-Listed.is at c.args.self.now.stands in 
 pub bounds-rows-f : goal.bounds-rows-f
 bounds-rows-f c = let s = rw c.in-Listed.is at c.args.self.now.stands in omega (arith, s.1, c.requires)
 
-pub offset_bounds-rows-f-in-Listed : goal.offset_bounds-rows-f-in-Listed
-offset_bounds-rows-f-in-Listed c = let s = rw c.in-Listed.is at c.args.self.now.stands in omega (arith, s.1, c.requires)
-
-pub bounds-rows-f-in-Listed : goal.bounds-rows-f-in-Listed
-bounds-rows-f-in-Listed c = let s = rw c.in-Listed.is at c.args.self.now.stands in omega (arith, s.1, c.requires)
-
 pub returns-in-Listed : goal.returns-in-Listed
 returns-in-Listed c =
     let s = rw c.in-Listed.is at c.args.self.now.stands in
-    rw c.in-Listed.is (field_listed _ _ _ _ _ c.requires.0 c.requires.1 _ _ s.0 c.put_token.ensures)
+    rw c.in-Listed.is (field_listed _ _ _ _ c.requires.0 c.requires.1 _ _ s.0 c.put_token.ensures)
