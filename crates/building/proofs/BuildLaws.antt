@@ -1,31 +1,46 @@
--- The nodes so far grow by those that come out; the loops that clear words and copy bytes. Assumes nothing.
-use Prim.Native.Nat.{ℕ, zero, suc, ◌+◌, ◌*◌, ◌<◌, ◌≤◌}
+-- The nodes so far grow by those that come out. Assumes nothing.
+use Prim.Native.Nat.{ℕ, ◌+◌, ◌*◌, ◌<◌, ◌≤◌}
 use mathlib.Core.Path.{◌≡◌, refl, ap, subst, ◌∙◌}
 use mathlib.Core.List.{List, [], ◌∷◌, ◌++◌, append_assoc, append-nil}
 use native.Mathlib.Omega.{arith}
 use native.Mathlib.Decide.{dec_lt}
-use lib.ListN.{length, get_or, set, take, drop, replicate, length-set}
+use lib.ListN.{length, replicate, length-set, length-replicate}
 use lib.Seq.{length-sets}
 use borrow.Author.Tests.{eq-eqb, ne_eqb}
-use borrow.Author.Fill.{fill_more}
 use Rattle.laws.specs.Lists.{length-snoc}
 use Rattle.rules.specs.Image.{most_nodes}
+use Rattle.grammar.specs.Reads.{most_bytes}
 use Rattle.rules.specs.Published.{node_bytes}
 use Rattle.reading.specs.Items.{Item, put}
 use Rattle.reading.specs.Links.{linked, first_of}
 use Rattle.tables.specs.Puts.{Puts}
+use Rattle.tables.proofs.NodeLaws.{falling-none}
 use Rattle.tables.proofs.Tabling.{tabled-more}
 use Rattle.dues.specs.declared.Made.{Made}
 use Rattle.dues.specs.Words.{made_items}
-use Rattle.building.specs.Built.{Roomy, Built, Adds}
+use Rattle.building.specs.Room.{Roomy}
+use Rattle.building.specs.Built.{Built, Adds}
+use Rattle.building.specs.declared.nodes.Nodes.{Nodes}
+use Rattle.building.specs.Grown.{Grows}
+
+-- ---- the room
+
+pub none-roomy : (start : ℕ) → start ≤ 42 → Roomy start (replicate most_bytes 0) (replicate most_nodes 0)
+none-roomy start h =
+    record {
+      bytes = length-replicate {A = ℕ} most_bytes 0;
+      links = length-replicate {A = ℕ} most_nodes 0;
+      begins = h;
+      falling = falling-none most_nodes;
+    }
 
 -- ---- lists of nodes
 
-pub nothing-added : (start m : ℕ) (img firsts : List ℕ) → Roomy start img firsts → m ≤ 2049 → Adds [] start m m img firsts img firsts
+nothing-added : (start m : ℕ) (img firsts : List ℕ) → Roomy start img firsts → m ≤ 2049 → Adds [] start m m img firsts img firsts
 nothing-added start m img firsts r h = record { room = r; few = h; adds = λ is b. rw (append-nil is) b }
 
 -- one after the other
-pub both-added : (is js : List Item) (start m n o : ℕ) (img firsts img' firsts' img'' firsts'' : List ℕ)
+both-added : (is js : List Item) (start m n o : ℕ) (img firsts img' firsts' img'' firsts'' : List ℕ)
     → Adds is start m n img firsts img' firsts' → Adds js start n o img' firsts' img'' firsts'' → Adds (is ++ js) start m o img firsts img'' firsts''
 both-added is js start m n o img firsts img' firsts' img'' firsts'' a b =
     record {
@@ -33,6 +48,15 @@ both-added is js start m n o img firsts img' firsts' img'' firsts'' a b =
       few = b.few;
       adds = λ before h. subst (λ (l : List Item). Built l start o img'' firsts'') (append_assoc before is js) (b.adds (before ++ is) (a.adds before h));
     }
+
+-- the same of the nodes as a whole
+pub nothing-grown : (s : Nodes) → Grows [] s s
+nothing-grown s = (nothing-added s.start s.count s.image s.firsts s.roomy s.few, refl)
+
+pub both-grown : (is js : List Item) (s t u : Nodes) → Grows is s t → Grows js t u → Grows (is ++ js) s u
+both-grown is js s t u a b =
+    (both-added is js s.start s.count t.count u.count s.image s.firsts t.image t.firsts u.image u.firsts a.0
+    (subst (λ (k : ℕ). Adds js k t.count u.count t.image t.firsts u.image u.firsts) a.1 b.0), b.1 ∙ a.1)
 
 -- ---- a node of an answer
 
@@ -106,55 +130,3 @@ no_room start m x img firsts r h n f =
           λ q. let e = b.counted (omega arith) in omega arith in
           record { roomy = r; few = omega arith; counted = λ q. absurd (never q); tabled = λ q. absurd (never q); past = λ q. refl };
     })
-
--- ---- the loop of `clear`: the first i words are zero
-
-pub record Cleared (entry : List ℕ) (n : ℕ) (now : List ℕ) (i : ℕ) : Type 0 where
-  pub so_far : i ≤ n
-  pub same_length : length now ≡ length entry
-  pub is : now ≡ replicate i 0 ++ drop i entry
-
-pub none-cleared : (entry : List ℕ) (n i : ℕ) → i ≡ 0 → Cleared entry n entry i
-none-cleared entry n i e = record { so_far = omega arith; same_length = refl; is = rw e }
-
-pub one-cleared : (entry : List ℕ) (n : ℕ) (now : List ℕ) (i : ℕ) → n ≤ length entry → Cleared entry n now i → i < n → Cleared entry n (set now i 0) (i + 1)
-one-cleared entry n now i h c l =
-    record {
-      so_far = omega arith;
-      same_length = length-set now i 0 ∙ c.same_length;
-      is = ap (λ (w : List ℕ). set w i 0) c.is ∙ fill_more i 0 entry (omega arith);
-    }
-
-pub all-cleared : (entry : List ℕ) (n : ℕ) (now : List ℕ) (i : ℕ) → Cleared entry n now i → n ≤ i → now ≡ replicate n 0 ++ drop n entry
-all-cleared entry n now i c f = let h = c.so_far in let e : i ≡ n = omega arith in c.is ∙ ap (λ (k : ℕ). replicate k 0 ++ drop k entry) e
-
--- ---- the loop of `copy`: the first i bytes are those of the image
-
-pub record Copied (img entry : List ℕ) (n : ℕ) (now : List ℕ) (i : ℕ) : Type 0 where
-  pub so_far : i ≤ n
-  pub same_length : length now ≡ length entry
-  pub is : now ≡ take i img ++ drop i entry
-
-pub none-copied : (img entry : List ℕ) (n i : ℕ) → i ≡ 0 → Copied img entry n entry i
-none-copied img entry n i e = record { so_far = omega arith; same_length = refl; is = rw e }
-
-copy_more : (img entry : List ℕ) (i : ℕ) → i < length img → i < length entry → set (take i img ++ drop i entry) i (get_or img i 0) ≡ take (suc i) img ++ drop (suc i) entry
-copy_more [] entry i h l = absurd (omega arith)
-copy_more (b ∷ img) [] i h l = absurd (omega arith)
-copy_more (b ∷ img) (x ∷ entry) zero h l = refl
-copy_more (b ∷ img) (x ∷ entry) (suc i) h l = ap (λ (t : List ℕ). b ∷ t) (copy_more img entry i (omega arith) (omega arith))
-
-pub one-copied : (img entry : List ℕ) (n : ℕ) (now : List ℕ) (i : ℕ) → (n ≤ length img) × (n ≤ length entry) → Copied img entry n now i → i < n
-    → Copied img entry n (set now i (get_or img i 0)) (i + 1)
-one-copied img entry n now i h c l =
-    let p = h.0 in
-    let q = h.1 in
-    let one : suc i ≡ i + 1 = omega arith in
-    record {
-      so_far = omega arith;
-      same_length = length-set now i (get_or img i 0) ∙ c.same_length;
-      is = ap (λ (w : List ℕ). set w i (get_or img i 0)) c.is ∙ copy_more img entry i (omega arith) (omega arith) ∙ ap (λ (k : ℕ). take k img ++ drop k entry) one;
-    }
-
-pub all-copied : (img entry : List ℕ) (n : ℕ) (now : List ℕ) (i : ℕ) → Copied img entry n now i → n ≤ i → now ≡ take n img ++ drop n entry
-all-copied img entry n now i c f = let h = c.so_far in let e : i ≡ n = omega arith in c.is ∙ ap (λ (k : ℕ). take k img ++ drop k entry) e

@@ -2,7 +2,6 @@
 use Prim.Native.Nat.{ℕ, suc, ◌+◌, ◌*◌, ◌%◌, ◌<◌, ◌≤◌}
 use mathlib.Core.Path.{◌≡◌, refl, sym, ap, subst, ◌∙◌}
 use mathlib.Core.Bool.{Bool, true, false, not}
-use mathlib.Core.Logic.{inl, inr}
 use mathlib.Core.List.{List, [], ◌∷◌, ◌++◌, map, append-nil}
 use native.Mathlib.Omega.{arith}
 use native.Mathlib.Decide.{dec_lt}
@@ -16,7 +15,12 @@ use Rattle.reading.specs.Table.{Due}
 use Rattle.dues.specs.Stack.{Stacked, Standing, PassesAll, passed_items}
 use Rattle.tables.specs.Tabled.{head_bytes}
 use Rattle.tables.proofs.Tabling.{tabled-image}
-use Rattle.building.specs.Built.{Roomy, Adds, Passed, EndSays}
+use Rattle.std.specs.Prelude.{Ok, Err}
+use Rattle.tables.specs.Tabled.{Tabled}
+use Rattle.building.specs.declared.finish.EndError.TheVariants.{Early, TooManyNodes}
+use Rattle.building.specs.declared.nodes.Nodes.{Nodes}
+use Rattle.building.specs.Built.{Passed, EndSays}
+use Rattle.building.specs.Grown.{Grows}
 use Rattle.building.specs.Finish.{EndSaysAll, Out}
 use Rattle.building.proofs.PassedLaws.{finish-all, all-passed}
 
@@ -34,15 +38,10 @@ granted : (b : Bool) → not b ≡ false → b ≡ true
 granted true e = refl
 granted false e = sym e
 
-pub not_there : (depth start m : ℕ) (ws img firsts : List ℕ) (b : Bool) → Roomy start img firsts → AllPass b depth ws → not b ≡ true
-    → EndSaysAll depth start m (record { why = 23; nodes = 0 }) ws img firsts img firsts
-not_there depth start m ws img firsts b r h n =
+pub not_there : (depth : ℕ) (ws : List ℕ) (s : Nodes) (b : Bool) → AllPass b depth ws → not b ≡ true → EndSaysAll depth ws (Err Early) s s
+not_there depth ws s b h n =
     let g = subst (λ (x : Bool). AllPass x depth ws) (denied b n) h in
-    record {
-      room = r;
-      says = λ ds is s _.
-          record { known = inr (inl refl); early = λ _. g ds s is; many = λ e. absurd (omega (arith, e)); whole = λ e. absurd (omega (arith, e)) };
-    }
+    record { says = λ ds is st _. g ds st is; same = refl }
 
 pub there : (depth : ℕ) (ws : List ℕ) (b : Bool) → AllPass b depth ws → not b ≡ false → AllPass true depth ws
 there depth ws b h n = subst (λ (x : Bool). AllPass x depth ws) (granted b n) h
@@ -51,64 +50,58 @@ pub may-pass : (depth : ℕ) (ws : List ℕ) → Standing depth ws → AllPass t
 may-pass depth ws s h = all-passed s.dues ws depth s.stacked (h s.dues s.stacked)
 
 -- what `put_passed` says, of the whole stack
-abbrev pub AllAdded : ℕ → ℕ → ℕ → ℕ → List ℕ → List ℕ → List ℕ → List ℕ → List ℕ → Type 0
-AllAdded depth start m n ws img firsts img' firsts' =
-    (above left : List Due) → Stacked (above ++ left) depth ws → length left ≡ 0 → PassesAll above 0
-    → Adds (passed_items above) start m n img firsts img' firsts'
+abbrev pub AllAdded : ℕ → List ℕ → Nodes → Nodes → Type 0
+AllAdded depth ws s t =
+    (above left : List Due) → Stacked (above ++ left) depth ws → length left ≡ 0 → PassesAll above 0 → Grows (passed_items above) s t
 
 module _
-    (depth start m n : ℕ)
-    (ws img firsts img' firsts' : List ℕ)
+    (depth : ℕ)
+    (ws : List ℕ)
+    (s t : Nodes)
     (standing : Standing depth ws)
     (ends : AllPass true depth ws)
-    (added : AllAdded depth start m n ws img firsts img' firsts') where
-  all-added : (ds : List Due) → Stacked ds depth ws → Adds (passed_items ds) start m n img firsts img' firsts'
-  all-added ds s = added ds [] (subst (λ (es : List Due). Stacked es depth ws) (sym (append-nil ds)) s) refl (ends ds s)
+    (added : AllAdded depth ws s t) where
+  all-added : (ds : List Due) → Stacked ds depth ws → Grows (passed_items ds) s t
+  all-added ds h = added ds [] (subst (λ (es : List Due). Stacked es depth ws) (sym (append-nil ds)) h) refl (ends ds h)
 
-  room-left : Roomy start img' firsts'
-  room-left = (all-added standing.dues standing.stacked).room
+  same-start : t.start ≡ s.start
+  same-start = (all-added standing.dues standing.stacked).1
 
-  pub too_many : most_nodes < n → EndSaysAll depth start m (record { why = 27; nodes = 0 }) ws img firsts img' firsts'
+  pub too_many : most_nodes < t.count → EndSaysAll depth ws (Err TooManyNodes) s t
   too_many h =
       record {
-        room = room-left;
-        says = λ ds is s b.
-            let c = (all-added ds s).adds is b in
+        says = λ ds is st b.
+            let c = (all-added ds st).0.adds is b in
             let js = is ++ passed_items ds in
             record {
-              known = inr (inr refl);
-              early = λ e. absurd (omega (arith, e));
-              many = λ _.
-                  record {
-                    items = js;
-                    ends = finish-all ds is (ends ds s);
-                    many = elim (dec_lt most_nodes (length js)) [
-                      | yes p ↦ p
-                      | no q ↦ let e = c.counted (omega arith) in absurd (omega arith)
-                    ];
-                  };
-              whole = λ e. absurd (omega (arith, e));
+              items = js;
+              ends = finish-all ds is (ends ds st);
+              many = elim (dec_lt most_nodes (length js)) [
+                | yes p ↦ p
+                | no q ↦ let e = c.counted (omega arith) in absurd (omega arith)
+              ];
             };
+        same = same-start;
       }
 
-  pub few-enough : n ≤ most_nodes → EndSaysAll depth start m (record { why = 0; nodes = n }) ws img firsts img' firsts'
+  pub few-enough : t.count ≤ most_nodes → EndSaysAll depth ws (Ok tt) s t
   few-enough h =
       record {
-        room = room-left;
-        says = λ ds is s b.
-            let c = (all-added ds s).adds is b in
+        says = λ ds is st b.
+            let c = (all-added ds st).0.adds is b in
             let js = is ++ passed_items ds in
             let few : length js ≤ most_nodes = elim (dec_lt most_nodes (length js)) [
               | yes p ↦ let e = c.past p in absurd (omega arith)
               | no q ↦ omega arith
             ] in
             record {
-              known = inl refl;
-              early = λ e. absurd (omega (arith, e));
-              many = λ e. absurd (omega (arith, e));
-              whole = λ _.
-                  record { items = js; ends = finish-all ds is (ends ds s); few = few; counted = c.counted few; tabled = c.tabled few };
+              items = js;
+              ends = finish-all ds is (ends ds st);
+              few = few;
+              counted = c.counted few;
+              tabled = subst (λ (i : ℕ). Tabled js i t.image t.firsts) (sym same-start) (c.tabled few);
             };
+        same = same-start;
       }
 
 -- ---- the codes as words: the first i of them
@@ -148,21 +141,21 @@ all-narrowed codes words i k n h =
 
 -- ---- the image goes out
 
-pub image-out : (f nodes names : ℕ) (codes img img' out out' : List ℕ) → length codes ≡ 16 → length img ≡ most_bytes → f ≤ most_fields → nodes ≤ most_nodes
-    → img' ≡ sets img 0 (head_bytes (take f codes) nodes names)
-    → out' ≡ take (10 + 2 * f + 8 * nodes) img' ++ drop (10 + 2 * f + 8 * nodes) out
-    → Out f nodes names (10 + 2 * f + 8 * nodes) codes img out out'
-image-out f nodes names codes img img' out out' k l h i e o =
+pub image-out : (s : Nodes) (codes img' out out' : List ℕ) (names : ℕ)
+    → length codes ≤ most_fields → s.start ≡ 10 + 2 * length codes → s.count ≤ most_nodes
+    → img' ≡ sets s.image 0 (head_bytes codes s.count names)
+    → out' ≡ take (s.start + 8 * s.count) img' ++ drop (s.start + 8 * s.count) out
+    → Out s codes names (s.start + 8 * s.count) out out'
+image-out s codes img' out out' names h b i e o =
     record {
       bytes = refl;
-      shows = λ js firsts t c.
-          let m = length-take-le f codes (omega arith) in
-          let n = length-sets img 0 (head_bytes (take f codes) nodes names) in
-          let long : length img' ≡ most_bytes = ap length e ∙ n ∙ l in
-          let it : take (10 + 2 * f + 8 * nodes) img' ≡ image (take f codes) (nodes_in (link js)) names =
-          rw (← c) (tabled-image js (take f codes) names (10 + 2 * f) img firsts img' t (omega arith) (omega arith) (rw c e)) in
+      shows = λ js t c.
+          let n = length-sets s.image 0 (head_bytes codes s.count names) in
+          let long : length img' ≡ most_bytes = ap length e ∙ n ∙ s.roomy.bytes in
+          let it : take (s.start + 8 * s.count) img' ≡ image codes (nodes_in (link js)) names =
+          rw (← c) (tabled-image js codes names s.start s.image s.firsts img' t b (omega (arith, s.roomy.bytes)) (rw c e)) in
           record {
-            long = sym (ap length it) ∙ length-take-le (10 + 2 * f + 8 * nodes) img' (omega arith);
-            is = o ∙ ap (λ (x : List ℕ). x ++ drop (10 + 2 * f + 8 * nodes) out) it;
+            long = sym (ap length it) ∙ length-take-le (s.start + 8 * s.count) img' (omega arith);
+            is = o ∙ ap (λ (x : List ℕ). x ++ drop (s.start + 8 * s.count) out) it;
           };
     }

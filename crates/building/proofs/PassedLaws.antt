@@ -16,8 +16,10 @@ use Rattle.dues.specs.declared.Deed.TheVariants.{Take, Pass, Refuse}
 use Rattle.dues.specs.Words.{passed, due_word, made_items, deed_of, in_words}
 use Rattle.dues.specs.Stack.{DueFits, Stacked, passing, PassesAll, passed_items}
 use Rattle.dues.proofs.StackLaws.{Learns, Looked, asked, stack_top, stack-left, stack-length}
-use Rattle.building.specs.Built.{Roomy, Adds, WordPasses, Passed, EndSays}
-use Rattle.building.proofs.BuildLaws.{nothing-added, both-added, one-made}
+use Rattle.building.specs.declared.nodes.Nodes.{Nodes}
+use Rattle.building.specs.Grown.{Grows}
+use Rattle.building.specs.Built.{WordPasses, Passed, EndSays}
+use Rattle.building.proofs.BuildLaws.{nothing-grown, both-grown, one-made}
 
 -- ---- the node of one thing due
 
@@ -80,43 +82,35 @@ pub small-tag : (w kind : ℕ) (r : Deed) (x : Made) → WordPasses w kind → L
 small-tag w kind r x p h e =
     small-made x (subst SmallTag (sym (its-node w kind r x h e p.due p.fits p.is p.passes)) (small-passing p.due p.fits))
 
-pub node-put : (w kind start m n : ℕ) (r : Deed) (x : Made) (img firsts img' firsts' : List ℕ) → Learns w kind r → r ≡ Pass x
-    → Adds (made_items x) start m n img firsts img' firsts'
-    → (d : Due) → DueFits d → w ≡ due_word d → does d kind 0 ≡ pass (passing d) → Adds (passing d) start m n img firsts img' firsts'
-node-put w kind start m n r x img firsts img' firsts' h e a d f i p =
-    subst (λ (js : List Item). Adds js start m n img firsts img' firsts') (its-node w kind r x h e d f i p) a
+pub node-put : (w kind : ℕ) (r : Deed) (x : Made) (s t : Nodes) → Learns w kind r → r ≡ Pass x
+    → Grows (made_items x) s t
+    → (d : Due) → DueFits d → w ≡ due_word d → does d kind 0 ≡ pass (passing d) → Grows (passing d) s t
+node-put w kind r x s t h e a d f i p = subst (λ (js : List Item). Grows js s t) (its-node w kind r x h e d f i p) a
 
 -- ---- the loop: the nodes of those on top are put, and i things due are left of the whole stack
 
 -- how those that are passed fall into two
-pub record Sinks (above : List Due) (floor i start m n : ℕ) (img firsts img' firsts' : List ℕ) : Type 0 where
+pub record Sinks (above : List Due) (floor i : ℕ) (s t : Nodes) : Type 0 where
   pub done : List Due
   pub rest : List Due
   pub split : above ≡ done ++ rest
   pub count : length rest + floor ≡ i
-  pub adds : Adds (passed_items done) start m n img firsts img' firsts'
+  pub grows : Grows (passed_items done) s t
 
-pub record Sunk (work : List ℕ) (depth floor kind i start m n : ℕ) (img firsts img' firsts' : List ℕ) : Type 0 where
+pub record Sunk (work : List ℕ) (depth floor kind i : ℕ) (s t : Nodes) : Type 0 where
   pub inside : i ≤ depth
-  pub room : Roomy start img' firsts'
-  pub few : n ≤ 2049
-  pub sinks : (above left : List Due) → Stacked (above ++ left) depth work → length left ≡ floor → PassesAll above kind
-      → Sinks above floor i start m n img firsts img' firsts'
+  pub sinks : (above left : List Due) → Stacked (above ++ left) depth work → length left ≡ floor → PassesAll above kind → Sinks above floor i s t
 
-pub none-sunk : (work : List ℕ) (depth floor kind i start m n : ℕ) (img firsts : List ℕ) → Roomy start img firsts → m ≤ 2049 → i ≡ depth → n ≡ m
-    → Sunk work depth floor kind i start m n img firsts img firsts
+pub none-sunk : (work : List ℕ) (depth floor kind : ℕ) (s : Nodes) → Sunk work depth floor kind depth s s
 unfolding passed_items
-none-sunk work depth floor kind i start m n img firsts r h e f =
-    rw f
-    (record {
+none-sunk work depth floor kind s =
+    record {
       inside = omega arith;
-      room = r;
-      few = h;
-      sinks = λ above left s c p.
-          let l = stack-length (above ++ left) depth work s in
+      sinks = λ above left h c p.
+          let l = stack-length (above ++ left) depth work h in
           let k = length-append above left in
-          record { done = []; rest = above; split = refl; count = omega arith; adds = nothing-added start m img firsts r h };
-    })
+          record { done = []; rest = above; split = refl; count = omega arith; grows = nothing-grown s };
+    }
 
 -- the thing due that is met next
 record Met (work : List ℕ) (kind j : ℕ) (rest : List Due) : Type 0 where
@@ -155,26 +149,25 @@ meets work depth floor kind j done (d ∷ rest) left s c p e h =
     }
 
 -- what is met where the nodes of those before it are put
-met_at : (work : List ℕ) (depth floor kind j start m n : ℕ) (img firsts img' firsts' : List ℕ) (above left : List Due)
+met_at : (work : List ℕ) (depth floor kind j : ℕ) (s t : Nodes) (above left : List Due)
     → Stacked (above ++ left) depth work → length left ≡ floor → PassesAll above kind
-    → (s : Sinks above floor (suc j) start m n img firsts img' firsts') → floor < suc j → Met work kind j s.rest
-met_at work depth floor kind j start m n img firsts img' firsts' above left h c p s l =
-    meets work depth floor kind j s.done s.rest left
-    (subst (λ (ds : List Due). Stacked (ds ++ left) depth work) s.split h) c
-    (subst (λ (ds : List Due). PassesAll ds kind) s.split p) s.count l
+    → (k : Sinks above floor (suc j) s t) → floor < suc j → Met work kind j k.rest
+met_at work depth floor kind j s t above left h c p k l =
+    meets work depth floor kind j k.done k.rest left
+    (subst (λ (ds : List Due). Stacked (ds ++ left) depth work) k.split h) c
+    (subst (λ (ds : List Due). PassesAll ds kind) k.split p) k.count l
 
-pub next-passes : (work : List ℕ) (depth floor kind i start m n : ℕ) (img firsts img' firsts' : List ℕ) → Passed work depth floor kind
-    → Sunk work depth floor kind i start m n img firsts img' firsts' → floor < i → WordPasses (get_or work (i - 1) 0) kind
-next-passes work depth floor kind zero start m n img firsts img' firsts' p s l = absurd (omega arith)
-next-passes work depth floor kind (suc j) start m n img firsts img' firsts' p s l =
+pub next-passes : (work : List ℕ) (depth floor kind i : ℕ) (s t : Nodes) → Passed work depth floor kind
+    → Sunk work depth floor kind i s t → floor < i → WordPasses (get_or work (i - 1) 0) kind
+next-passes work depth floor kind zero s t p k l = absurd (omega arith)
+next-passes work depth floor kind (suc j) s t p k l =
     let e : suc j - 1 ≡ j = omega arith in
-    let q = met_at work depth floor kind j start m n img firsts img' firsts' p.above p.left p.stacked p.count p.passes
-    (s.sinks p.above p.left p.stacked p.count p.passes) l in
+    let q = met_at work depth floor kind j s t p.above p.left p.stacked p.count p.passes (k.sinks p.above p.left p.stacked p.count p.passes) l in
     rw e (record { due = q.due; fits = q.fits; is = q.word; passes = q.passes })
 
-pub next-in-work : (work : List ℕ) (depth floor kind i start m n : ℕ) (img firsts img' firsts' : List ℕ) → Passed work depth floor kind
-    → Sunk work depth floor kind i start m n img firsts img' firsts' → floor < i → i - 1 < length work
-next-in-work work depth floor kind i start m n img firsts img' firsts' p s l = omega (arith, p.stacked.inside, s.inside)
+pub next-in-work : (work : List ℕ) (depth floor kind i : ℕ) (s t : Nodes) → Passed work depth floor kind
+    → Sunk work depth floor kind i s t → floor < i → i - 1 < length work
+next-in-work work depth floor kind i s t p k l = omega (arith, p.stacked.inside, k.inside)
 
 items_more : (done : List Due) (d : Due) → passed_items (done ++ (d ∷ [])) ≡ passed_items done ++ passing d
 unfolding passed_items
@@ -182,32 +175,28 @@ items_more [] d = append-nil (passing d)
 items_more (e ∷ done) d =
     ap (λ (is : List Item). passing e ++ is) (items_more done d) ∙ sym (append_assoc (passing e) (passed_items done) (passing d))
 
-pub one-sunk : (work : List ℕ) (depth floor kind i start m n o : ℕ) (img firsts img' firsts' img'' firsts'' : List ℕ)
-    → Sunk work depth floor kind i start m n img firsts img' firsts' → floor < i
-    → ((d : Due) → DueFits d → get_or work (i - 1) 0 ≡ due_word d → does d kind 0 ≡ pass (passing d) → Adds (passing d) start n o img' firsts' img'' firsts'')
-    → Roomy start img'' firsts'' × (o ≤ 2049)
-    → Sunk work depth floor kind (i - 1) start m o img firsts img'' firsts''
-one-sunk work depth floor kind zero start m n o img firsts img' firsts' img'' firsts'' s l a r = absurd (omega arith)
-one-sunk work depth floor kind (suc j) start m n o img firsts img' firsts' img'' firsts'' s l a r =
+pub one-sunk : (work : List ℕ) (depth floor kind i : ℕ) (s t u : Nodes)
+    → Sunk work depth floor kind i s t → floor < i
+    → ((d : Due) → DueFits d → get_or work (i - 1) 0 ≡ due_word d → does d kind 0 ≡ pass (passing d) → Grows (passing d) t u)
+    → Sunk work depth floor kind (i - 1) s u
+one-sunk work depth floor kind zero s t u k l a = absurd (omega arith)
+one-sunk work depth floor kind (suc j) s t u k l a =
     let e : suc j - 1 ≡ j = omega arith in
     record {
-      inside = omega (arith, s.inside);
-      room = r.0;
-      few = r.1;
+      inside = omega (arith, k.inside);
       sinks = λ above left h c p.
-          let k = s.sinks above left h c p in
-          let q = met_at work depth floor kind j start m n img firsts img' firsts' above left h c p k l in
+          let n = k.sinks above left h c p in
+          let q = met_at work depth floor kind j s t above left h c p n l in
           let long = ap length q.is in
           record {
-            done = k.done ++ (q.due ∷ []);
+            done = n.done ++ (q.due ∷ []);
             rest = q.behind;
             split =
-                k.split ∙ ap (λ (ds : List Due). k.done ++ ds) q.is ∙ sym (append_assoc k.done (q.due ∷ []) q.behind);
-            count = omega (arith, k.count, long);
-            adds =
-                subst (λ (is : List Item). Adds is start m o img firsts img'' firsts'') (sym (items_more k.done q.due))
-                (both-added (passed_items k.done) (passing q.due) start m n o img firsts img' firsts' img'' firsts'' k.adds
-                (a q.due q.fits (rw e q.word) q.passes));
+                n.split ∙ ap (λ (ds : List Due). n.done ++ ds) q.is ∙ sym (append_assoc n.done (q.due ∷ []) q.behind);
+            count = omega (arith, n.count, long);
+            grows =
+                subst (λ (is : List Item). Grows is s u) (sym (items_more n.done q.due))
+                (both-grown (passed_items n.done) (passing q.due) s t u n.grows (a q.due q.fits (rw e q.word) q.passes));
           };
     }
 
@@ -215,14 +204,13 @@ none-behind : (done rest above : List Due) (floor i : ℕ) → above ≡ done ++
 none-behind done [] above floor i e c l = sym (e ∙ append-nil done)
 none-behind done (d ∷ rest) above floor i e c l = absurd (omega (arith, c))
 
-pub all-sunk : (work : List ℕ) (depth floor kind i start m n : ℕ) (img firsts img' firsts' : List ℕ)
-    → Sunk work depth floor kind i start m n img firsts img' firsts' → i ≤ floor
+pub all-sunk : (work : List ℕ) (depth floor kind i : ℕ) (s t : Nodes)
+    → Sunk work depth floor kind i s t → i ≤ floor
     → (above left : List Due) → Stacked (above ++ left) depth work → length left ≡ floor → PassesAll above kind
-    → Adds (passed_items above) start m n img firsts img' firsts'
-all-sunk work depth floor kind i start m n img firsts img' firsts' s l above left h c p =
-    let k = s.sinks above left h c p in
-    subst (λ (ds : List Due). Adds (passed_items ds) start m n img firsts img' firsts')
-    (none-behind k.done k.rest above floor i k.split k.count l) k.adds
+    → Grows (passed_items above) s t
+all-sunk work depth floor kind i s t k l above left h c p =
+    let n = k.sinks above left h c p in
+    subst (λ (ds : List Due). Grows (passed_items ds) s t) (none-behind n.done n.rest above floor i n.split n.count l) n.grows
 
 -- ---- an answer that passes nothing
 

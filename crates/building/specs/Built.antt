@@ -3,20 +3,12 @@
 use Rattle.std.specs.Prelude.{ℕ, ◌<◌, ◌≤◌, ◌≡◌, Bool, true, false, List, ◌++◌, length}
 use Rattle.std.proofs.Math.Option.{none}
 use Rattle.rules.specs.Image.{most_nodes}
-use Rattle.grammar.specs.Reads.{most_bytes}
 use Rattle.reading.specs.Items.{Item}
 use Rattle.reading.specs.Table.{Due, pass, does, finish}
 use Rattle.dues.specs.Words.{due_word}
 use Rattle.dues.specs.Stack.{DueFits, Stacked, passing, PassesAll}
-use Rattle.tables.specs.Puts.{Falling}
 use Rattle.tables.specs.Tabled.{Tabled}
-
--- the buffers have their lengths, and the nodes begin behind the contents and at most 16 codes
-pub record Roomy (start : ℕ) (img firsts : List ℕ) : Type 0 where
-  pub bytes : length img ≡ most_bytes
-  pub links : length firsts ≡ most_nodes
-  pub begins : start ≤ 42
-  pub falling : Falling firsts
+use Rattle.building.specs.Room.{Roomy}
 
 pub record Built (is : List Item) (start m : ℕ) (img firsts : List ℕ) : Type 0 where
   pub roomy : Roomy start img firsts

@@ -1,2 +1,4 @@
+pub mod Room
 pub mod Built
+pub mod Grown
 pub mod Finish
