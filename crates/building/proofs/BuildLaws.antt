@@ -6,7 +6,7 @@ use native.Mathlib.Omega.{arith}
 use native.Mathlib.Decide.{dec_lt}
 use lib.ListN.{length, replicate, length-set, length-replicate}
 use lib.Seq.{length-sets}
-use borrow.Author.Tests.{eq-eqb, ne_eqb}
+use Rattle.std.specs.Prelude.{Option, Some, None}
 use Rattle.laws.specs.Lists.{length-snoc}
 use Rattle.rules.specs.Image.{most_nodes}
 use Rattle.grammar.specs.Reads.{most_bytes}
@@ -54,9 +54,11 @@ pub nothing-grown : (s : Nodes) → Grows [] s s
 nothing-grown s = (nothing-added s.start s.count s.image s.firsts s.roomy s.few, refl)
 
 pub both-grown : (is js : List Item) (s t u : Nodes) → Grows is s t → Grows js t u → Grows (is ++ js) s u
-both-grown is js s t u a b =
-    (both-added is js s.start s.count t.count u.count s.image s.firsts t.image t.firsts u.image u.firsts a.0
-    (subst (λ (k : ℕ). Adds js k t.count u.count t.image t.firsts u.image u.firsts) a.1 b.0), b.1 ∙ a.1)
+both-grown is js s t u a b = (
+  both-added is js s.start s.count t.count u.count s.image s.firsts t.image t.firsts u.image u.firsts a.0
+      (subst (λ (k : ℕ). Adds js k t.count u.count t.image t.firsts u.image u.firsts) a.1 b.0),
+  b.1 ∙ a.1,
+)
 
 -- ---- a node of an answer
 
@@ -78,23 +80,15 @@ roomy-more start m tag value img firsts img' firsts' r p =
       falling = p.falling;
     }
 
-none_made : (x : Made) → x.tag ≡ 0 → made_items x ≡ []
-none_made x e = rw (eq-eqb x.tag 0 e)
+pub no_node : (s : Nodes) (o : Option Made) → o ≡ None → Grows (made_items o) s s
+no_node s o e = rw e (nothing-grown s)
 
-pub one-made : (x : Made) → (x.tag ≡ 0 → ⊥) → made_items x ≡ put x.tag x.value ∷ []
-one-made x n = rw (ne_eqb x.tag 0 n)
-
-pub no_node : (start m : ℕ) (x : Made) (img firsts : List ℕ) → Roomy start img firsts → m ≤ 2049 → x.tag ≡ 0
-    → Adds (made_items x) start m m img firsts img firsts
-no_node start m x img firsts r h e =
-    rw (none_made x e) (nothing-added start m img firsts r h)
-
-pub one-node : (start m : ℕ) (x : Made) (img firsts img' firsts' : List ℕ) → Roomy start img firsts → (x.tag ≡ 0 → ⊥) → m < 2048
+pub one-node : (start m : ℕ) (o : Option Made) (x : Made) (img firsts img' firsts' : List ℕ) → Roomy start img firsts → o ≡ Some x → m < 2048
     → Puts start m x.tag x.value img firsts img' firsts'
-    → Adds (made_items x) start m (m + 1) img firsts img' firsts'
-one-node start m x img firsts img' firsts' r n h p =
+    → Adds (made_items o) start m (m + 1) img firsts img' firsts'
+one-node start m o x img firsts img' firsts' r n h p =
     let room = roomy-more start m x.tag x.value img firsts img' firsts' r p in
-    rw (one-made x n)
+    rw n
     (record {
       room = room;
       few = omega arith;
@@ -117,10 +111,10 @@ one-node start m x img firsts img' firsts' r n h p =
           };
     })
 
-pub no_room : (start m : ℕ) (x : Made) (img firsts : List ℕ) → Roomy start img firsts → m ≤ 2049 → (x.tag ≡ 0 → ⊥) → 2048 ≤ m
-    → Adds (made_items x) start m 2049 img firsts img firsts
-no_room start m x img firsts r h n f =
-    rw (one-made x n)
+pub no_room : (start m : ℕ) (o : Option Made) (x : Made) (img firsts : List ℕ) → Roomy start img firsts → m ≤ 2049 → o ≡ Some x → 2048 ≤ m
+    → Adds (made_items o) start m 2049 img firsts img firsts
+no_room start m o x img firsts r h n f =
+    rw n
     (record {
       room = r;
       few = omega arith;

@@ -6,8 +6,9 @@ use mathlib.Core.Bool.{true, false}
 use mathlib.Core.Option.{Option, none, some}
 use mathlib.Core.List.{List, [], ◌∷◌, ◌++◌, append_assoc, append-nil}
 use native.Mathlib.Omega.{arith}
-use native.Mathlib.Decide.{ℕ_discrete}
 use lib.ListN.{length, get_or, length-append}
+use Rattle.std.specs.Prelude.{Option as Answered, Some, None}
+use Rattle.std.specs.Option.{ForSome}
 use Rattle.reading.specs.Items.{Item, put}
 use Rattle.reading.specs.Table.{Due, command, body, var_name, var_semi, malloc_open, malloc_name, atom_open, middle, shut, otherwise, close, close_node, node, test, test_left, test_minus, operand, negative, name_first, first, first_dot, first_dotted, first_minus, becomes_due, expression, sel, sel_dot, after_minus, sel_minus, sel_minus_dot, proc_name, proc_colon, Act, take, pass, refuse, does, over, finish}
 use Rattle.dues.specs.declared.Made.{Made}
@@ -19,7 +20,7 @@ use Rattle.dues.proofs.StackLaws.{Learns, Looked, asked, stack_top, stack-left, 
 use Rattle.building.specs.declared.nodes.Nodes.{Nodes}
 use Rattle.building.specs.Grown.{Grows}
 use Rattle.building.specs.Built.{WordPasses, Passed, EndSays}
-use Rattle.building.proofs.BuildLaws.{nothing-grown, both-grown, one-made}
+use Rattle.building.proofs.BuildLaws.{nothing-grown, both-grown}
 
 -- ---- the node of one thing due
 
@@ -63,26 +64,29 @@ small-passing sel_minus_dot f = tt
 small-passing proc_name f = tt
 small-passing (proc_colon x) f = tt
 
-small-made : (x : Made) → SmallTag (made_items x) → x.tag < 65536
-small-made x s =
-    elim (ℕ_discrete x.tag 0) [
-      | yes e ↦ omega arith
-      | no n ↦ let h : x.tag < 64 = subst SmallTag (one-made x n) s in omega arith
-    ]
+none-some : {x : Made} → ◌≡◌ {A = Answered Made} None (Some x) → ⊥
+none-some e = cc
+
+same-made : {x y : Made} → Some x ≡ Some y → x ≡ y
+same-made e = cc
+
+small-made : (o : Answered Made) → SmallTag (made_items o) → ForSome o (λ m. m.tag < 65536)
+small-made None s = λ m e. absurd (none-some e)
+small-made (Some x) s = λ m e. let h : x.tag < 64 = s in let i : x ≡ m = same-made e in rw (← i) (omega arith)
 
 same-items : (is js : List Item) → passed is ≡ passed js → is ≡ js
 same-items is js e = cc
 
 -- the answer's node is the one that comes out there
-its-node : (w kind : ℕ) (r : Deed) (x : Made) → Learns w kind r → r ≡ Pass x
+its-node : (w kind : ℕ) (r : Deed) (x : Answered Made) → Learns w kind r → r ≡ Pass x
     → (d : Due) → DueFits d → w ≡ due_word d → does d kind 0 ≡ pass (passing d) → made_items x ≡ passing d
 its-node w kind r x h e d f i p = same-items (made_items x) (passing d) (sym (ap deed_of e) ∙ h d f i ∙ ap in_words p)
 
-pub small-tag : (w kind : ℕ) (r : Deed) (x : Made) → WordPasses w kind → Learns w kind r → r ≡ Pass x → x.tag < 65536
+pub small-tag : (w kind : ℕ) (r : Deed) (x : Answered Made) → WordPasses w kind → Learns w kind r → r ≡ Pass x → ForSome x (λ m. m.tag < 65536)
 small-tag w kind r x p h e =
     small-made x (subst SmallTag (sym (its-node w kind r x h e p.due p.fits p.is p.passes)) (small-passing p.due p.fits))
 
-pub node-put : (w kind : ℕ) (r : Deed) (x : Made) (s t : Nodes) → Learns w kind r → r ≡ Pass x
+pub node-put : (w kind : ℕ) (r : Deed) (x : Answered Made) (s t : Nodes) → Learns w kind r → r ≡ Pass x
     → Grows (made_items x) s t
     → (d : Due) → DueFits d → w ≡ due_word d → does d kind 0 ≡ pass (passing d) → Grows (passing d) s t
 node-put w kind r x s t h e a d f i p = subst (λ (js : List Item). Grows js s t) (its-node w kind r x h e d f i p) a
@@ -215,7 +219,7 @@ all-sunk work depth floor kind i s t k l above left h c p =
 -- ---- an answer that passes nothing
 
 abbrev pub Stops : Deed → Type 0
-Stops r = (m : Made) → r ≡ Pass m → ⊥
+Stops r = (m : Answered Made) → r ≡ Pass m → ⊥
 
 not-passed : (r : Deed) (is : List Item) → Stops r → deed_of r ≡ passed is → ⊥
 not-passed (Take v m) is h e = let z : ◌≡◌ {A = ℕ} 1 0 = cc in omega arith

@@ -1,5 +1,6 @@
 // The nodes so far, in a local image: each node that comes out is put behind the others and counted, as long as there is room.
 ghost use Rattle.std.specs.Prelude.{◌≡◌, List, ◌++◌, ◌<◌, ◌≤◌, length, replicate};
+ghost use Rattle.std.specs.Option.{ForSome};
 ghost use Rattle.rules.specs.Image.{most_nodes};
 ghost use Rattle.grammar.specs.Reads.{most_bytes};
 ghost use Rattle.reading.specs.Table.{Due, pass, does};
@@ -45,13 +46,13 @@ impl Nodes {
 
     /// A node, or none, behind those that are there.
     #[tactic(auto, using(crate::proofs::BuildLaws::no_node, crate::proofs::BuildLaws::no_room, crate::proofs::Cited::build_put_made_lemmas))]
-    pub fn put(&mut self, made: Made)
-        requires { made.tag < 65536 }
+    pub fn put(&mut self, made: Option<Made>)
+        requires { ForSome made (λ m. m.tag < 65536) }
         ensures { Grows (made_items made) self.old self.new }
     {
-        if made.tag == 0 {
+        let Some(made) = made else {
             return;
-        }
+        };
         if self.count < MOST_NODES {
             tables::nodes::put_node(
                 &mut self.image,

@@ -1,5 +1,5 @@
 -- The answer of the reader: from what a text gives, with a list that is right, to the image's bytes or the refusal. Assumes nothing.
-use Prim.Native.Nat.{ℕ, zero, suc, ◌+◌, ◌*◌, ◌-◌, ◌/◌, ◌%◌, ◌<◌, ◌≤◌}
+use Prim.Native.Nat.{ℕ, suc, ◌+◌, ◌*◌, ◌-◌, ◌/◌, ◌%◌, ◌<◌, ◌≤◌}
 use mathlib.Core.Path.{◌≡◌, refl, sym, ap, subst, ◌∙◌}
 use mathlib.Core.Bool.{Bool, true, false}
 use mathlib.Core.List.{List, [], ◌∷◌, ◌++◌, map}
@@ -13,15 +13,16 @@ use Rattle.grammar.specs.FieldList.{Entry, code_of}
 use Rattle.grammar.specs.Reads.{RefusedText, at-a-place, early-end, too-many-nodes, bad-byte, bad-order, unknown-field, outside-32-bits, too-many-names, most_bytes, words_for, Lent, short-output, short-work, bad-list, bad-text}
 use Rattle.reading.specs.Links.{nodes_in, link}
 use Rattle.fieldlist.specs.declared.FieldRows.{FieldRows}
-use Rattle.fieldlist.specs.Answer.{entries_of, RightRows, Answers}
-use Rattle.fieldlist.proofs.Uses.{is-wrong}
+use Rattle.fieldlist.specs.declared.BadRow.{BadRow}
+use Rattle.fieldlist.specs.Answer.{entries_of, RightRows, Says, Answers}
 use Rattle.tables.specs.Tabled.{Tabled}
 use Rattle.std.specs.Prelude.{Result, Ok, Err}
 use Rattle.reader.specs.declared.ReadError.{ReadError}
-use Rattle.reader.specs.declared.text.Ending.{Ending}
+use Rattle.reader.specs.declared.text.Reading.{Reading}
 use Rattle.building.specs.Finish.{Out}
 use Rattle.reader.specs.Under.{Lasting}
-use Rattle.reader.specs.Says.{Stood, Finds, TextSays, cleared, Handed, Withheld, Listens, early, words_after, Denies, ReadSays}
+use Rattle.reader.specs.Steps.{Begins}
+use Rattle.reader.specs.Says.{Tells, TextSays, cleared, Handed, Withheld, Listens, early, words_after, Denies, ReadSays}
 use Rattle.reader.proofs.CodeLaws.{narrow-codes}
 
 -- ---- lengths
@@ -53,59 +54,53 @@ past_first : (ws : List ℕ) (n v : ℕ) → drop (suc n) (set ws 0 v) ≡ drop 
 past_first [] n v = refl
 past_first (w ∷ ws) n v = refl
 
-pub clears : (text ws ws₁ ws₂ ws' : List ℕ) (v : ℕ)
-    → ws₁ ≡ set ws 0 v
+pub first-kept : (text ws : List ℕ) (v : ℕ) → drop (words_for (length text)) (set ws 0 v) ≡ drop (words_for (length text)) ws
+first-kept text ws v =
+    let n : words_for (length text) ≡ suc (3 * length text + 3) = omega arith in
+    subst (λ (i : ℕ). drop i (set ws 0 v) ≡ drop i ws) (sym n) (past_first ws (3 * length text + 3) v)
+
+pub clears : (text ws ws₁ ws₂ ws' : List ℕ)
+    → drop (words_for (length text)) ws₁ ≡ drop (words_for (length text)) ws
     → Lasting text ws₁ ws₂
     → ws' ≡ replicate (words_for (length text)) 0 ++ drop (words_for (length text)) ws₂
     → ws' ≡ cleared text ws
-clears text ws ws₁ ws₂ ws' v e l c =
-    let n : words_for (length text) ≡ suc (3 * length text + 3) = omega arith in
-    c
-    ∙ ap (λ (us : List ℕ). replicate (words_for (length text)) 0 ++ us)
-    (l.past
-    ∙ ap (λ (us : List ℕ). drop (words_for (length text)) us) e
-    ∙ subst (λ (i : ℕ). drop i (set ws 0 v) ≡ drop i ws) (sym n) (past_first ws (3 * length text + 3) v))
+clears text ws ws₁ ws₂ ws' e l c = c ∙ ap (λ (us : List ℕ). replicate (words_for (length text)) 0 ++ us) (l.past ∙ e)
 
 -- ---- a list that is right
 
+-- what the reading tells, of the text and the list that it began with
+pub told-of : {list text : List ℕ} {rows : FieldRows} {ws ws₁ ws₂ : List ℕ} {s t : Reading} {r : Result Unit ReadError}
+    → Begins text list rows ws ws₁ s → TextSays s t ws₁ ws₂ r → Tells list text rows (10 + 2 * rows.count) ws₁ r t ws₂
+told-of {list} {text} {rows} {ws} {ws₁} {ws₂} {s} {t} {r} b k =
+    subst (λ (n : ℕ). Tells list text rows n ws₁ r t ws₂) b.start
+    (subst (λ (q : FieldRows). Tells list text q s.nodes.start ws₁ r t ws₂) b.its-rows
+    (subst (λ (x : List ℕ). Tells list x s.rows.now s.nodes.start ws₁ r t ws₂) b.its-text
+    (subst (λ (x : List ℕ). Tells x s.text.now s.rows.now s.nodes.start ws₁ r t ws₂) b.its-list k.tells)))
+
 module _
-    (list text : List ℕ) (rows : FieldRows) (right : RightRows list rows) (start : ℕ) (e : Ending) (ws ws₁ ws₂ ws' img firsts out : List ℕ) (v : ℕ)
-    (first : ws₁ ≡ set ws 0 v)
-    (t : TextSays list text rows start e ws₁ ws₂ img firsts)
+    (list text : List ℕ) (rows : FieldRows) (right : RightRows list rows) (start : ℕ) (ws ws₁ ws₂ ws' out : List ℕ) (t : Reading)
+    (past : drop (words_for (length text)) ws₁ ≡ drop (words_for (length text)) ws)
     (c : ws' ≡ replicate (words_for (length text)) 0 ++ drop (words_for (length text)) ws₂)
   where
-    pub withheld : (e.why ≡ 0 → ⊥) → Withheld list text rows e.why e.line ws out ws' out
-    withheld h = go e.why refl t.finds
-      where
-        go : (k : ℕ) → e.why ≡ k → Finds k list text rows start e img firsts → Withheld list text rows e.why e.line ws out ws' out
-        go zero i f = absurd (h i)
-        go (suc k) i f =
-            record {
-              refused = subst (λ (j : ℕ). RefusedText (entries_of list rows) text j e.line) (sym i) f;
-              output = refl;
-              words = clears text ws ws₁ ws₂ ws' v first t.lasting c;
-            }
+    pub withheld : (e : ReadError) → Tells list text rows start ws₁ (Err e) t ws₂ → Withheld list text rows e.number e.line ws out ws' out
+    withheld e h = record { refused = h.finds; output = refl; words = clears text ws ws₁ ws₂ ws' past h.lasting c }
 
-    pub stood : e.why ≡ 0 → Stood list text rows start e.nodes e.names img firsts
-    stood i = subst (λ (j : ℕ). Finds j list text rows start e img firsts) i t.finds
-
-    pub handed : (n : ℕ) (codes out' : List ℕ)
-        → e.why ≡ 0
-        → start ≡ 10 + 2 * rows.count
-        → codes ≡ map (λ c. c % 65536) rows.codes
-        → Out rows.count e.nodes e.names n codes img out out'
+    pub handed : (n : ℕ) (codes out' : List ℕ) (u : Unit {0})
+        → Tells list text rows start ws₁ (Ok u) t ws₂
+        → t.nodes.start ≡ start
+        → codes ≡ take rows.count (map (λ c. c % 65536) rows.codes)
+        → Out t.nodes codes t.names n out out'
         → Handed list text rows n ws out ws' out'
-    handed n codes out' i b d o =
-        let s = stood i in
-        let tabled = subst (λ (j : ℕ). Tabled s.items j img firsts) b s.tabled in
-        let h = o.shows s.items firsts tabled (sym s.counted) in
-        let k : take rows.count codes ≡ map code_of (entries_of list rows) = rw d (narrow-codes list rows right) in
+    handed n codes out' u h b d o =
+        let s = h.finds in
+        let shown = o.shows s.items (subst (λ (j : ℕ). Tabled s.items j t.nodes.image t.nodes.firsts) (sym b) s.tabled) (sym s.counted) in
+        let k : codes ≡ map code_of (entries_of list rows) = d ∙ narrow-codes list rows right in
         record {
-          img = image (map code_of (entries_of list rows)) (nodes_in (link s.items)) e.names;
+          img = image (map code_of (entries_of list rows)) (nodes_in (link s.items)) t.names;
           read = s.read;
-          long = sym h.long ∙ ap (λ (cs : List ℕ). length (image cs (nodes_in (link s.items)) e.names)) k;
-          output = h.is ∙ ap (λ (cs : List ℕ). image cs (nodes_in (link s.items)) e.names ++ drop n out) k;
-          words = clears text ws ws₁ ws₂ ws' v first t.lasting c;
+          long = sym shown.long ∙ ap (λ (cs : List ℕ). length (image cs (nodes_in (link s.items)) t.names)) k;
+          output = shown.is ∙ ap (λ (cs : List ℕ). image cs (nodes_in (link s.items)) t.names ++ drop n out) k;
+          words = clears text ws ws₁ ws₂ ws' past h.lasting c;
         }
 
 -- ---- the whole answer
@@ -150,6 +145,6 @@ pub says-28 : (list text ws out : List ℕ) → most_bytes ≤ length out → le
 unfolding words_after early among
 says-28 list text ws out h l = record { refuses = short-work h l; output = refl; words = refl }
 
-pub says-21 : (list text ws out : List ℕ) (rows : FieldRows) → Lent (length out) (length ws) text → Answers list rows → (rows.why ≡ 0 → ⊥) → Denies list text 21 0 ws out ws out
+pub says-21 : (list text ws out : List ℕ) (r : Result FieldRows BadRow) (b : BadRow) → Lent (length out) (length ws) text → Answers list r → r ≡ Err b → Denies list text 21 0 ws out ws out
 unfolding words_after early among
-says-21 list text ws out rows l a h = record { refuses = bad-list l (is-wrong a h); output = refl; words = refl }
+says-21 list text ws out r b l a h = record { refuses = bad-list l (subst (Says list) h a.says).1; output = refl; words = refl }

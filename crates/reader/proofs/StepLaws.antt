@@ -5,7 +5,6 @@ use mathlib.Core.Bool.{Bool, true, false, true≢false, cond}
 use mathlib.Core.List.{List, [], ◌∷◌, ◌++◌, map, append_assoc, map-append}
 use mathlib.Core.Option.{Option, none, some}
 use native.Mathlib.Omega.{arith}
-use native.Mathlib.Decide.{dec_lt}
 use lib.ListN.{length, get_or, take as first_of, drop, length-append}
 use lib.Dec.{eqb}
 use borrow.Author.Tests.{eq-eqb}
@@ -32,13 +31,16 @@ use Rattle.reading.proofs.Longer.{token-known}
 use Rattle.letters.specs.declared.places.Place.{Place}
 use Rattle.letters.specs.Says.{Found, piece_by}
 use Rattle.fieldlist.specs.declared.FieldRows.{FieldRows}
-use Rattle.fieldlist.specs.Answer.{Spans, words, entries_of}
+use Rattle.std.specs.Prelude.{Option as Answered, Some, None}
+use Rattle.std.specs.Option.{ForSome}
+use Rattle.std.proofs.lemmas.List.{length-reverse}
+use Rattle.fieldlist.specs.declared.names.Span.{Span}
+use Rattle.fieldlist.specs.Names.{Spans, words}
+use Rattle.fieldlist.specs.Answer.{entries_of}
 use Rattle.building.specs.Built.{Passed}
 use Rattle.letters.specs.Upto.{piece_at, Upto}
 use Rattle.judging.specs.Judged.{TakenAs}
-use Rattle.reader.specs.declared.step.Kept.{Kept}
 use Rattle.reader.specs.Under.{Lasting, Under, TakeSays}
-use Rattle.building.proofs.BuildLaws.{one-made}
 
 -- ---- the stack
 
@@ -81,15 +83,18 @@ fed-there above left instead taker k v is nodes p t =
     feed-above above (taker ∷ left) k v is p ∙ rw t (ap (λ (js : List Item). went (instead ++ left) js) (append_assoc is (passed_items above) nodes))
 
 -- the node that comes out has a small tag
-pub small-tag : (x : Made) (nodes : List Item) → ItemsFit nodes → made_items x ≡ nodes → x.tag < 65536
-small-tag x nodes f e =
-    elim (dec_lt 0 x.tag) [
-      | yes l ↦
-          let i = one-made x (λ z. omega arith) in
-          let g : ItemsFit (put x.tag x.value ∷ []) = subst ItemsFit (sym e ∙ i) f in
-          omega (arith, g.0)
-      | no n ↦ omega arith
-    ]
+none-some : {x : Made} → ◌≡◌ {A = Answered Made} None (Some x) → ⊥
+none-some e = cc
+
+same-made : {x y : Made} → Some x ≡ Some y → x ≡ y
+same-made e = cc
+
+pub small-tag : (o : Answered Made) (nodes : List Item) → ItemsFit nodes → made_items o ≡ nodes → ForSome o (λ m. m.tag < 65536)
+small-tag None nodes f e = λ m h. absurd (none-some h)
+small-tag (Some x) nodes f e = λ m h.
+    let g : ItemsFit (put x.tag x.value ∷ []) = subst ItemsFit (sym e) f in
+    let l : x.tag < 65536 = omega (arith, g.0) in
+    subst (λ (y : Made). y.tag < 65536) (same-made h) l
 
 -- ---- the words
 
@@ -158,25 +163,22 @@ small-name fields ns (marked m) {t} e k l = let j : mark m ≡ t = cc in rw (←
 small-name fields ns (bad_byte b) {t} e k l = absurd (let z : ◌≡◌ {A = ℕ} 1 0 = cc in omega arith)
 
 -- four things due at most come instead
-four-at-most : (j a b c d : ℕ) → length (first_of j (a ∷ b ∷ c ∷ d ∷ [])) ≤ 4
-four-at-most zero a b c d = omega arith
-four-at-most (suc zero) a b c d = omega arith
-four-at-most (suc (suc zero)) a b c d = omega arith
-four-at-most (suc (suc (suc zero))) a b c d = omega arith
-four-at-most (suc (suc (suc (suc j)))) a b c d = rw (none j) (omega arith)
+four-at-most : (d : Dues) → length (due_words d) ≤ 4
+four-at-most d = omega (arith, length-reverse (first_of d.count d.words), take-at-most d.count d.words, d.few)
   where
-    none : (j : ℕ) → first_of {A = ℕ} j [] ≡ []
-    none zero = refl
-    none (suc j) = refl
+    take-at-most : (n : ℕ) (l : List ℕ) → length (first_of n l) ≤ n
+    take-at-most zero l = omega arith
+    take-at-most (suc n) [] = omega arith
+    take-at-most (suc n) (x ∷ l) = omega (arith, take-at-most n l)
 
 -- ---- a token that is taken, where the reader stands
 
 module _
-    {list text : List ℕ} {rows : FieldRows} {at line n depth start m : ℕ} {starts ends ws₀ ws img firsts : List ℕ}
-    (u : Under list text rows at line n depth start m starts ends ws₀ ws img firsts)
+    {list text : List ℕ} {rows : FieldRows} {at line n depth start m : ℕ} {ws₀ ws img firsts : List ℕ} {spans : List Span}
+    (u : Under list text rows at line n depth start m spans ws₀ ws img firsts)
   where
     -- what it passes stands above
-    pub taken-passed : {p : Piece} {k q : ℕ} {d : Dues} {x : Made} → TakenAs (entries_of list rows) (words text starts ends n) u.dues p k q d x → Passed ws depth (q + 1) k
+    pub taken-passed : {p : Piece} {k q : ℕ} {d : Dues} {x : Answered Made} → TakenAs (entries_of list rows) (words text spans n) u.dues p k q d x → Passed ws depth (q + 1) k
     taken-passed t =
         record {
           above = t.above;
@@ -186,16 +188,16 @@ module _
           passes = t.passes;
         }
 
-    pub taken-depth : {p : Piece} {k q : ℕ} {d : Dues} {x : Made} → TakenAs (entries_of list rows) (words text starts ends n) u.dues p k q d x → q + 1 ≤ depth
+    pub taken-depth : {p : Piece} {k q : ℕ} {d : Dues} {x : Answered Made} → TakenAs (entries_of list rows) (words text spans n) u.dues p k q d x → q + 1 ≤ depth
     taken-depth t =
         omega
         (arith, stack-length u.dues depth ws u.stacked, ap length t.split, length-append t.above (t.taker ∷ t.left), t.count)
 
     -- there is room for what comes instead
-    pub taken-room : {p : Piece} {k q : ℕ} {d : Dues} {x : Made} → TakenAs (entries_of list rows) (words text starts ends n) u.dues p k q d x → at < length text → q + 4 ≤ length ws
+    pub taken-room : {p : Piece} {k q : ℕ} {d : Dues} {x : Answered Made} → TakenAs (entries_of list rows) (words text spans n) u.dues p k q d x → at < length text → q + 4 ≤ length ws
     taken-room t h = omega (arith, taken-depth t, u.shallow, u.lasting.enough, u.lasting.same_length)
 
-    module _ (r : Place) (f : Found text at line r) (h : 0 < r.kind) {q : ℕ} {d : Dues} {x : Made} (t : TakenAs (entries_of list rows) (words text starts ends n) u.dues (piece_at text r) r.kind q d x) where
+    module _ (r : Place) (f : Found text at line r) (h : 0 < r.kind) {q : ℕ} {d : Dues} {x : Answered Made} (t : TakenAs (entries_of list rows) (words text spans n) u.dues (piece_at text r) r.kind q d x) where
       taker-fits : DueFits t.taker
       taker-fits = (fit-left t.above (t.taker ∷ t.left) (rw (← t.split) u.stacked.fit)).0
 
@@ -205,11 +207,11 @@ module _
       instead-fits : ActFits (take t.instead t.nodes)
       instead-fits = subst ActFits t.takes (does-fit t.taker r.kind t.value taker-fits name-fits)
 
-      pub taken-tag : x.tag < 65536
+      pub taken-tag : ForSome x (λ m. m.tag < 65536)
       taken-tag = small-tag x t.nodes instead-fits.1 t.items
 
       -- how far the text has been read then
-      taken-progress : Progress (entries_of list rows) text r.to r.line (noted (words text starts ends n) (piece_at text r)) (t.instead ++ t.left) (u.items ++ (passed_items t.above ++ t.nodes))
+      taken-progress : Progress (entries_of list rows) text r.to r.line (noted (words text spans n) (piece_at text r)) (t.instead ++ t.left) (u.items ++ (passed_items t.above ++ t.nodes))
       taken-progress =
           goes_on u.progress (piece_at text r) r.to r.line f.spelled t.valid.is
           (token-known (map word_of (entries_of list rows)) _ (piece_at text r) t.valid.is (marks-above r.kind _ h))
@@ -217,37 +219,35 @@ module _
           (rw (t.valid.kind, t.valid.value, t.split) (fed-there t.above t.left t.instead t.taker r.kind t.value u.items t.nodes t.passes t.takes))
 
       -- the reader behind it, with the names that there are then
-      pub taken-under : {starts' ends' : List ℕ} {n' : ℕ} {ws' img' firsts' : List ℕ} (kept : Kept)
+      pub taken-under : {spans' : List Span} {n' : ℕ} {depth' m' : ℕ} {ws' img' firsts' : List ℕ}
           → Upto text r.to r.line (u.places ++ (spot r.line (piece_at text r) ∷ []))
           → line_from r.line (drop r.to text) ≡ line_from line (drop at text)
           → n' ≤ most_names
-          → Spans text starts' ends' n'
-          → length starts' ≡ most_names
-          → length ends' ≡ most_names
-          → noted (words text starts ends n) (piece_at text r) ≡ words text starts' ends' n'
-          → TakeSays r.kind q depth start m d x kept ws img firsts ws' img' firsts'
-          → Under list text rows r.to r.line n' kept.depth start kept.nodes starts' ends' ws₀ ws' img' firsts'
-      taken-under {ws' = ws'} kept o l fw sp sl el ns k =
-          let four = four-at-most d.count d.a d.b d.c d.d in
-          let deep : kept.depth ≤ 3 * r.to + 1 = omega (arith, k.piled.count, four, taken-depth t, u.shallow, f.not-before, f.not-empty) in
-          let fits : kept.depth ≤ words_for (length text) = omega (arith, deep, f.within) in
+          → Spans text spans' n'
+          → length spans' ≡ most_names
+          → noted (words text spans n) (piece_at text r) ≡ words text spans' n'
+          → TakeSays r.kind q depth start m d x depth' m' ws img firsts ws' img' firsts'
+          → Under list text rows r.to r.line n' depth' start m' spans' ws₀ ws' img' firsts'
+      taken-under {depth' = depth'} {ws' = ws'} o l fw sp sl ns k =
+          let four = four-at-most d in
+          let deep : depth' ≤ 3 * r.to + 1 = omega (arith, k.piled.count, four, taken-depth t, u.shallow, f.not-before, f.not-empty) in
+          let fits : depth' ≤ words_for (length text) = omega (arith, deep, f.within) in
           record {
             inside = f.within;
             lines = f.few-lines;
             last = l ∙ u.last;
             few = fw;
-            spans = sp;
-            starts-long = sl;
-            ends-long = el;
+            names = sp;
+            spans-long = sl;
             shallow = deep;
-            lasting = lasts text ws₀ ws ws' (due_words d) q kept.depth u.lasting k.piled fits;
+            lasting = lasts text ws₀ ws ws' (due_words d) q depth' u.lasting k.piled fits;
             places = u.places ++ (spot r.line (piece_at text r) ∷ []);
             upto = o;
             dues = t.instead ++ t.left;
             items = u.items ++ (passed_items t.above ++ t.nodes);
             progress = rw (← ns) taken-progress;
             stacked =
-                piled-stack t.above t.left t.instead t.taker depth q kept.depth ws ws' d (rw (← t.split) u.stacked) t.count instead-fits.0 t.words
+                piled-stack t.above t.left t.instead t.taker depth q depth' ws ws' d (rw (← t.split) u.stacked) t.count instead-fits.0 t.words
                 (omega (arith, fits, u.lasting.enough, u.lasting.same_length)) k.piled;
             built = rw (← t.items) ((k.adds t.above (t.taker ∷ t.left) (rw (← t.split) u.stacked) (omega (arith, t.count)) t.passes).adds u.items u.built);
           }

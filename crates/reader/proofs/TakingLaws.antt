@@ -11,28 +11,25 @@ use Rattle.grammar.specs.FieldList.{Entry}
 use Rattle.grammar.specs.Grammar.{Text}
 use Rattle.grammar.specs.Reads.{GoesOn}
 use Rattle.reading.specs.Items.{Item}
-use Rattle.reading.specs.Table.{Due, feed, stuck}
+use Rattle.reading.specs.Table.{Due}
 use Rattle.reading.specs.Progress.{Progress}
 use Rattle.reading.proofs.Steps.{takes-kind, refuses-kind, can-end, cannot-end}
-use Rattle.dues.specs.declared.Taker.{Taker}
-use Rattle.dues.specs.declared.Taker.TheVariants.{At, Nowhere}
-use Rattle.dues.specs.Stack.{Stacked, passed_items, TakenBy, TakerSays}
+use Rattle.std.specs.Prelude.{Option as Answered, Some, None, is_some}
+use Rattle.dues.specs.Stack.{Stacked, passed_items, TakerSays}
 use Rattle.dues.proofs.StackLaws.{taker-goes-on}
 use Rattle.building.specs.Built.{EndSays}
-use Rattle.reader.specs.Taking.{Taken, KindSays, Asked}
+use Rattle.reader.specs.Taking.{KindSays, Asked}
 use Rattle.reader.specs.Why.{Tells, Could}
 use Rattle.building.proofs.PassedLaws.{finish-all}
 
 -- ---- one kind
 
-module _ (depth : ℕ) (ws : List ℕ) (k : ℕ) (t : Taker) (a : (ds : List Due) → Stacked ds depth ws → TakerSays ds k t) where
-  pub is-taken : (q : ℕ) → t ≡ At q → (ds : List Due) → Stacked ds depth ws → Taken ds k
-  is-taken q e ds s =
-      let b : TakenBy ds k q = rw e at (a ds s) in
-      record { dues = b.instead ++ b.left; items = λ is. (is ++ passed_items b.above) ++ b.nodes; goes = λ is. taker-goes-on ds k q b is }
-
-  pub is-not-taken : t ≡ Nowhere → (ds : List Due) → Stacked ds depth ws → (is : List Item) → feed ds k 0 is ≡ stuck
-  is-not-taken e ds s = rw e at (a ds s)
+pub kind-says : (depth : ℕ) (ws : List ℕ) (k : ℕ) (t : Answered ℕ) → ((ds : List Due) → Stacked ds depth ws → TakerSays ds k t)
+    → (ds : List Due) → Stacked ds depth ws → KindSays ds k (is_some t)
+kind-says depth ws k None a ds s = a ds s
+kind-says depth ws k (Some q) a ds s =
+    let b = a ds s in
+    record { dues = b.instead ++ b.left; items = λ is. (is ++ passed_items b.above) ++ b.nodes; goes = λ is. taker-goes-on ds k q b is }
 
 -- ---- all of them, one after the other
 

@@ -1,14 +1,14 @@
 -- From where a reading ended to what is told of it. Assumes nothing.
-use Prim.Native.Nat.{ℕ, zero, suc}
+use Prim.Native.Nat.{ℕ, zero, suc, ◌<◌}
 use mathlib.Core.Path.{◌≡◌, refl, sym, ap, subst}
 use mathlib.Core.Bool.{Bool}
 use mathlib.Core.List.{List, [], ◌∷◌, ◌++◌}
 use native.Mathlib.Omega.{arith}
-use lib.ListN.{length, drop, set, replicate, length-append}
+use lib.ListN.{length, drop, replicate, length-append}
 use lib.Seq.{append_snoc}
 use Rattle.grammar.specs.Places.{Spot, spot, Spelled}
 use Rattle.grammar.specs.FieldList.{Entry}
-use Rattle.grammar.specs.Reads.{words_for}
+use Rattle.grammar.specs.Reads.{RefusedText, at-a-place, early-end, too-many-nodes, bad-byte, bad-order, unknown-field, outside-32-bits, too-many-names, words_for}
 use Rattle.grammar.proofs.Spelling.{spelled-some, spelled-one}
 use Rattle.reading.specs.Items.{Item}
 use Rattle.reading.specs.Table.{Due}
@@ -18,12 +18,13 @@ use Rattle.reading.proofs.Ends.{spelled-whole}
 use Rattle.fieldlist.specs.declared.FieldRows.{FieldRows}
 use Rattle.fieldlist.specs.Answer.{entries_of}
 use Rattle.dues.specs.Stack.{Stacked, Standing}
-use Rattle.reader.specs.declared.text.Ending.{Ending}
-use Rattle.reader.specs.declared.why.Why.{Why}
+use Rattle.std.specs.Prelude.{Result, Ok, Err}
+use Rattle.reader.specs.declared.ReadError.{ReadError}
+use Rattle.reader.specs.declared.text.Reading.{Reading}
 use Rattle.letters.specs.Upto.{piece_at, Upto, none_yet, one_more}
-use Rattle.reader.specs.Says.{Finds, TextSays}
+use Rattle.reader.specs.Says.{Stopped, Tells}
 use Rattle.reader.specs.Taking.{Asked}
-use Rattle.reader.specs.Why.{Answers, There, Stops, WhySays}
+use Rattle.reader.specs.Why.{why_of, Answers, There, Stops, WhySays}
 use Rattle.reader.proofs.ReadLaws.{clears}
 use Rattle.reader.proofs.TakingLaws.{tells_all}
 
@@ -54,52 +55,71 @@ same-places {text = text} {at = at} {line = line} {before = before} g u =
 
 -- ---- what is told
 
+-- what is refused has a number
+some_refusal : {fields : List Entry} {text : List ℕ} {k l : ℕ} → RefusedText fields text k l → 0 < k
+some_refusal (at-a-place after s r bad-byte) = omega arith
+some_refusal (at-a-place after s r (bad-order e h)) = omega arith
+some_refusal (at-a-place after s r (unknown-field g e)) = omega arith
+some_refusal (at-a-place after s r (outside-32-bits g h)) = omega arith
+some_refusal (at-a-place after s r (too-many-names g e h)) = omega arith
+some_refusal (early-end s r h) = omega arith
+some_refusal (too-many-nodes s v t h) = omega arith
+
 module _
-    (list text : List ℕ) (rows : FieldRows) (start : ℕ) (e : Ending) (ws ws₁ ws₂ ws' img firsts : List ℕ) (could : List Bool) (v : ℕ)
-    (first : ws₁ ≡ set ws 0 v)
-    (t : TextSays list text rows start e ws₁ ws₂ img firsts)
+    (list text : List ℕ) (rows : FieldRows) (start : ℕ) (r : Result Unit ReadError) (t : Reading) (ws ws₁ ws₂ ws' : List ℕ) (could : List Bool)
+    (h : Tells list text rows start ws₁ r t ws₂)
   where
-    pub end-stands : Standing e.depth ws₂
-    end-stands = record { dues = t.stopped.dues; stacked = t.stopped.stacked }
+    pub end-stands : Standing t.depth ws₂
+    end-stands = record { dues = h.stopped.dues; stacked = h.stopped.stacked }
 
-    answers : Answers e.why (entries_of list rows) text e.line
-    answers = go e.why refl t.finds
+    answers : (q : Result Unit ReadError) → Tells list text rows start ws₁ q t ws₂ → Answers (why_of q t.place could).why (entries_of list rows) text (why_of q t.place could).line
+    answers (Ok u) k = record { img = _; read = k.finds.read; last = k.stopped.last }
+    answers (Err e) k = go e.number refl k.finds
       where
-        go : (k : ℕ) → e.why ≡ k → Finds k list text rows start e img firsts → Answers k (entries_of list rows) text e.line
-        go zero i f = record { img = _; read = f.read; last = t.stopped.last i }
-        go (suc k) i f = f
+        go : (n : ℕ) → e.number ≡ n → RefusedText (entries_of list rows) text n e.line → Answers n (entries_of list rows) text e.line
+        go zero i f = absurd (omega (arith, some_refusal f))
+        go (suc n) i f = f
 
-    there : There e.place.kind (entries_of list rows) text t.stopped.progress.before t.stopped.progress.tokens e.place e.why e.line
-    there = go e.place.kind refl
+    there : (q : Result Unit ReadError) (k : Stopped list text rows q t ws₂)
+        → There t.place.kind (entries_of list rows) text k.progress.before k.progress.tokens t.place (why_of q t.place could).why (why_of q t.place could).line
+    there q k = go q k t.place.kind refl
       where
-        go : (k : ℕ)
-            → e.place.kind ≡ k
-            → There k (entries_of list rows) text t.stopped.progress.before t.stopped.progress.tokens e.place e.why e.line
-        go zero i =
-            let n = t.stopped.next.at-end i in
-            (spelled-whole t.stopped.progress n.spelled, n.is-from, n.is-to)
-        go (suc k) i =
-            let p = e.place in
-            let n = t.stopped.next.found (λ z. omega (arith, i, z)) in
-            let w = t.stopped.wrong (omega (arith, i)) in
+        go : (q : Result Unit ReadError) (k : Stopped list text rows q t ws₂) (j : ℕ)
+            → t.place.kind ≡ j
+            → There j (entries_of list rows) text k.progress.before k.progress.tokens t.place (why_of q t.place could).why (why_of q t.place could).line
+        go q k zero i =
+            let n = k.next.at-end i in
+            (spelled-whole k.progress n.spelled, n.is-from, n.is-to)
+        go (Ok u) k (suc j) i = absurd (k.wrong (omega (arith, i)))
+        go (Err e) k (suc j) i =
+            let p = t.place in
+            let n = k.next.found (λ z. omega (arith, i, z)) in
+            let w = k.wrong (omega (arith, i)) in
             let rest = spelled-some (drop p.to text) p.line in
             record {
               after = rest.0;
-              spelled = rw w.1 (t.stopped.progress.spelled _ (n.spelled rest.0 rest.1));
+              spelled = rw w.1 (k.progress.spelled _ (n.spelled rest.0 rest.1));
               wrong = w.0;
               not-empty = n.not-empty;
               within = n.within;
             }
 
     module _
-        (asked : (ds : List Due) → Stacked ds e.depth ws₂ → Asked ds 29 could)
+        (asked : (ds : List Due) → Stacked ds t.depth ws₂ → Asked ds 29 could)
+        (past : drop (words_for (length text)) ws₁ ≡ drop (words_for (length text)) ws)
         (c : ws' ≡ replicate (words_for (length text)) 0 ++ drop (words_for (length text)) ws₂)
-        (r : Why)
-        (same : (r.why ≡ e.why) × (r.line ≡ e.line) × (r.kind ≡ e.place.kind) × (r.from ≡ e.place.from) × (r.to ≡ e.place.to) × (r.could ≡ could))
       where
-        stops : Stops (entries_of list rows) text r
+        shape : (q : Result Unit ReadError) → ((why_of q t.place could).kind ≡ t.place.kind) × ((why_of q t.place could).from ≡ t.place.from) × ((why_of q t.place could).to ≡ t.place.to)
+        shape (Ok u) = (refl, refl, refl)
+        shape (Err e) = (refl, refl, refl)
+
+        flags : (q : Result Unit ReadError) → (why_of q t.place could).could ≡ could
+        flags (Ok u) = refl
+        flags (Err e) = refl
+
+        stops : Stops (entries_of list rows) text (why_of r t.place could)
         stops =
-            let s = t.stopped in
+            let s = h.stopped in
             record {
               before = s.progress.before;
               tokens = s.progress.tokens;
@@ -107,17 +127,12 @@ module _
               at = s.at;
               line = s.line;
               upto = rw (← same-places s.progress s.upto) s.upto;
-              place = e.place;
+              place = t.place;
               next = s.next;
-              is = (same.2, same.3, same.4);
-              there = rw (same.0, same.1) there;
-              could = rw same.5 (tells_all s.progress could (asked s.dues s.stacked));
+              is = shape r;
+              there = there r s;
+              could = rw (flags r) (tells_all s.progress could (asked s.dues s.stacked));
             }
 
-        pub told-why : WhySays list text rows r ws ws'
-        told-why =
-            record {
-              answers = rw (same.0, same.1) answers;
-              stops = stops;
-              words = clears text ws ws₁ ws₂ ws' v first t.lasting c;
-            }
+        pub told-why : WhySays list text rows (why_of r t.place could) ws ws'
+        told-why = record { answers = answers r h; stops = stops; words = clears text ws ws₁ ws₂ ws' past h.lasting c }

@@ -1,4 +1,5 @@
 pub mod Under
+pub mod Steps
 pub mod Says
 pub mod Taking
 pub mod Why

@@ -1,11 +1,12 @@
 -- What the reader answers: the image's bytes and no other, or the number and the line of a refusal, which leaves every byte of the output; and what the lent words
 -- hold afterwards. Assumes nothing.
-use Rattle.std.specs.Prelude.{ℕ, zero, suc, ◌<◌, ◌≤◌, ◌≡◌, cond, Result, Ok, Err, List, [], ◌∷◌, ◌++◌, map, length, drop, replicate}
+use Rattle.std.specs.Prelude.{ℕ, ◌<◌, ◌≤◌, ◌≡◌, cond, Result, Ok, Err, List, [], ◌∷◌, ◌++◌, map, length, drop, replicate}
 use Rattle.rules.specs.Image.{most_nodes, most_names}
 use Rattle.rules.specs.Published.{image}
 use Rattle.grammar.specs.Classes.{among}
-use Rattle.grammar.specs.Places.{Spot, last_line}
-use Rattle.grammar.specs.FieldList.{code_of}
+use Rattle.grammar.specs.Tokens.{Tok}
+use Rattle.grammar.specs.Places.{Piece, Spot, last_line}
+use Rattle.grammar.specs.FieldList.{Entry, code_of}
 use Rattle.grammar.specs.Reads.{ReadsText, Wrong, RefusedText, words_for, Reads, Refuses}
 use Rattle.reading.specs.Items.{Item}
 use Rattle.reading.specs.Links.{nodes_in, link}
@@ -19,7 +20,8 @@ use Rattle.dues.specs.Stack.{Stacked}
 use Rattle.letters.specs.Upto.{piece_at, Upto}
 use Rattle.reader.specs.Under.{Lasting}
 use Rattle.reader.specs.declared.ReadError.{ReadError}
-use Rattle.reader.specs.declared.text.Ending.{Ending}
+use Rattle.reader.specs.declared.text.Reading.{Reading}
+use Rattle.reader.specs.Steps.{SameText}
 
 -- ---- a text, with a list that is right
 
@@ -32,12 +34,22 @@ pub record Stood (list text : List ℕ) (rows : FieldRows) (start nodes names : 
   pub few-names : names ≤ most_names
   pub read : ReadsText (entries_of list rows) text (image (map code_of (entries_of list rows)) (nodes_in (link items)) names)
 
-abbrev pub Finds : ℕ → List ℕ → List ℕ → FieldRows → ℕ → Ending → List ℕ → List ℕ → Type 0
-Finds zero list text rows start r img firsts = Stood list text rows start r.nodes r.names img firsts
-Finds (suc k) list text rows start r img firsts = RefusedText (entries_of list rows) text (suc k) r.line
+abbrev pub Finds : Result Unit ReadError → List ℕ → List ℕ → FieldRows → ℕ → Reading → Type 0
+Finds (Ok u) list text rows start t = Stood list text rows start t.nodes.count t.names t.nodes.image t.nodes.firsts
+Finds (Err e) list text rows start t = RefusedText (entries_of list rows) text e.number e.line
+
+-- a place is wrong by just the number and the line that are told
+abbrev pub WrongAs : Result Unit ReadError → List Entry → List Spot → List Tok → Piece → ℕ → Type 0
+WrongAs (Ok u) fields before us p line = ⊥
+WrongAs (Err e) fields before us p line = Wrong fields before us p e.number × (e.line ≡ line)
+
+-- what is read whole ends on its last line
+abbrev pub LastAs : Result Unit ReadError → List ℕ → ℕ → Type 0
+LastAs (Ok u) text line = line ≡ last_line text
+LastAs (Err e) text line = Unit {0}
 
 -- where the reading ended: up to there all is right, what is due is on the stack, and what follows is wrong there or the end of the text
-pub record Stopped (list text : List ℕ) (rows : FieldRows) (r : Ending) (ws : List ℕ) : Type 0 where
+pub record Stopped (list text : List ℕ) (rows : FieldRows) (r : Result Unit ReadError) (t : Reading) (ws : List ℕ) : Type 0 where
   pub at : ℕ
   pub line : ℕ
   pub places : List Spot
@@ -46,15 +58,19 @@ pub record Stopped (list text : List ℕ) (rows : FieldRows) (r : Ending) (ws : 
   pub dues : List Due
   pub items : List Item
   pub progress : Progress (entries_of list rows) text at line names dues items
-  pub stacked : Stacked dues r.depth ws
-  pub next : NextSays text at line r.place
-  pub wrong : 0 < r.place.kind → Wrong (entries_of list rows) progress.before progress.tokens (piece_at text r.place) r.why × (r.line ≡ r.place.line)
-  pub last : r.why ≡ 0 → r.line ≡ last_line text
+  pub stacked : Stacked dues t.depth ws
+  pub next : NextSays text at line t.place
+  pub wrong : 0 < t.place.kind → WrongAs r (entries_of list rows) progress.before progress.tokens (piece_at text t.place) t.place.line
+  pub last : LastAs r text t.place.line
 
-pub record TextSays (list text : List ℕ) (rows : FieldRows) (start : ℕ) (r : Ending) (ws ws' img firsts : List ℕ) : Type 0 where
-  pub finds : Finds r.why list text rows start r img firsts
+pub record Tells (list text : List ℕ) (rows : FieldRows) (start : ℕ) (ws : List ℕ) (r : Result Unit ReadError) (t : Reading) (ws' : List ℕ) : Type 0 where
+  pub finds : Finds r list text rows start t
   pub lasting : Lasting text ws ws'
-  pub stopped : Stopped list text rows r ws'
+  pub stopped : Stopped list text rows r t ws'
+
+pub record TextSays (s t : Reading) (ws ws' : List ℕ) (r : Result Unit ReadError) : Type 0 where
+  pub same : SameText s t
+  pub tells : Tells s.list.now s.text.now s.rows.now s.nodes.start ws r t ws'
 
 -- ---- the answer
 

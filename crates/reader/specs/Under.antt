@@ -1,24 +1,23 @@
 -- How far the reader is: what the loop over the places keeps, of the text, the lent words and the local buffers. Assumes nothing.
-use Rattle.std.specs.Prelude.{ℕ, zero, suc, ◌+◌, ◌*◌, ◌≤◌, ◌≡◌, List, ◌++◌, length, drop}
+use Rattle.std.specs.Prelude.{ℕ, ◌+◌, ◌*◌, ◌≤◌, ◌≡◌, List, Option, ◌++◌, length, drop}
 use Rattle.rules.specs.Image.{most_names}
-use Rattle.grammar.specs.Tokens.{Tok}
 use Rattle.grammar.specs.Places.{Spot, line_from, last_line}
-use Rattle.grammar.specs.Reads.{Wrong, words_for}
+use Rattle.grammar.specs.Reads.{words_for}
 use Rattle.reading.specs.Items.{Item}
 use Rattle.reading.specs.Progress.{Progress}
 use Rattle.reading.specs.Table.{Due}
 use Rattle.letters.specs.declared.places.Place.{Place}
 use Rattle.letters.specs.Says.{NextSays, Found}
 use Rattle.fieldlist.specs.declared.FieldRows.{FieldRows}
-use Rattle.fieldlist.specs.Answer.{Spans, words, entries_of}
+use Rattle.fieldlist.specs.declared.names.Span.{Span}
+use Rattle.fieldlist.specs.Names.{Spans, words}
+use Rattle.fieldlist.specs.Answer.{entries_of}
 use Rattle.dues.specs.declared.Dues.{Dues}
 use Rattle.dues.specs.declared.Made.{Made}
 use Rattle.dues.specs.Words.{due_words, made_items}
 use Rattle.dues.specs.Stack.{Stacked, PassesAll, passed_items, Piled}
-use Rattle.letters.specs.Upto.{piece_at, Upto}
+use Rattle.letters.specs.Upto.{Upto}
 use Rattle.building.specs.Built.{Built, Adds}
-use Rattle.reader.specs.declared.step.Kept.{Kept}
-use Rattle.reader.specs.declared.step.Step.{Step}
 
 -- the lent words: as many as before, and past those that the text's length asks for as they were
 pub record Lasting (text ws₀ ws : List ℕ) : Type 0 where
@@ -26,57 +25,45 @@ pub record Lasting (text ws₀ ws : List ℕ) : Type 0 where
   pub same_length : length ws ≡ length ws₀
   pub past : drop (words_for (length text)) ws ≡ drop (words_for (length text)) ws₀
 
-pub record Under (list text : List ℕ) (rows : FieldRows) (at line n depth start m : ℕ) (starts ends ws₀ ws img firsts : List ℕ) : Type 0 where
+pub record Under (list text : List ℕ) (rows : FieldRows) (at line n depth start m : ℕ) (spans : List Span) (ws₀ ws img firsts : List ℕ) : Type 0 where
   pub inside : at ≤ length text
   pub lines : line ≤ at + 1
   pub last : line_from line (drop at text) ≡ last_line text
   pub few : n ≤ most_names
-  pub spans : Spans text starts ends n
-  pub starts-long : length starts ≡ most_names
-  pub ends-long : length ends ≡ most_names
+  pub names : Spans text spans n
+  pub spans-long : length spans ≡ most_names
   pub shallow : depth ≤ 3 * at + 1
   pub lasting : Lasting text ws₀ ws
   pub places : List Spot
   pub upto : Upto text at line places
   pub dues : List Due
   pub items : List Item
-  pub progress : Progress (entries_of list rows) text at line (words text starts ends n) dues items
+  pub progress : Progress (entries_of list rows) text at line (words text spans n) dues items
   pub stacked : Stacked dues depth ws
   pub built : Built items start m img firsts
 
 -- ---- a token that is taken, written down
 
-pub record TakeSays (kind q depth start m : ℕ) (d : Dues) (x : Made) (r : Kept) (ws img firsts ws' img' firsts' : List ℕ) : Type 0 where
-  pub piled : Piled (due_words d) q r.depth ws ws'
+pub record TakeSays (kind q depth start m : ℕ) (d : Dues) (x : Option Made) (depth' m' : ℕ) (ws img firsts ws' img' firsts' : List ℕ) : Type 0 where
+  pub piled : Piled (due_words d) q depth' ws ws'
   pub adds : (above left : List Due)
       → Stacked (above ++ left) depth ws
       → length left ≡ q + 1
       → PassesAll above kind
-      → Adds (passed_items above ++ made_items x) start m r.nodes img firsts img' firsts'
+      → Adds (passed_items above ++ made_items x) start m m' img firsts img' firsts'
 
 -- ---- a place
 
 -- the reader stands before it
-pub record Facing (list text : List ℕ) (rows : FieldRows) (p : Place) (at line n depth start m : ℕ) (starts ends ws₀ ws img firsts : List ℕ) : Type 0 where
-  pub under : Under list text rows at line n depth start m starts ends ws₀ ws img firsts
+pub record Facing (list text : List ℕ) (rows : FieldRows) (p : Place) (at line n depth start m : ℕ) (spans : List Span) (ws₀ ws img firsts : List ℕ) : Type 0 where
+  pub under : Under list text rows at line n depth start m spans ws₀ ws img firsts
   pub next : NextSays text at line p
   pub found : Found text at line p
   pub lines : line_from p.line (drop p.to text) ≡ line_from line (drop at text)
 
 -- somewhere
-pub record Faces (list text : List ℕ) (rows : FieldRows) (p : Place) (n depth start m : ℕ) (starts ends ws img firsts : List ℕ) : Type 0 where
+pub record Faces (list text : List ℕ) (rows : FieldRows) (p : Place) (n depth start m : ℕ) (spans : List Span) (ws img firsts : List ℕ) : Type 0 where
   pub at : ℕ
   pub line : ℕ
   pub ws₀ : List ℕ
-  pub facing : Facing list text rows p at line n depth start m starts ends ws₀ ws img firsts
-
--- nothing is wrong, and the reader is behind it; or the number of what is wrong there, behind these places and tokens, and the lent words are as they were
-abbrev pub Told : ℕ → List ℕ → List ℕ → FieldRows → Place → Step → List Spot → List Tok → ℕ → List ℕ → List ℕ → List ℕ → List ℕ → List ℕ → List ℕ → List ℕ → Type 0
-Told zero list text rows p r before us start starts ends ws₀ ws ws' img firsts =
-    Under list text rows p.to p.line r.names r.depth start r.nodes starts ends ws₀ ws' img firsts
-Told (suc k) list text rows p r before us start starts ends ws₀ ws ws' img firsts =
-    Wrong (entries_of list rows) before us (piece_at text p) (suc k) × (ws' ≡ ws)
-
-pub record StepSays (list text : List ℕ) (rows : FieldRows) (p : Place) (n depth start m : ℕ) (r : Step) (starts ends ws img firsts starts' ends' ws' img' firsts' : List ℕ) : Type 0 where
-  pub says : (at line : ℕ) (ws₀ : List ℕ) (f : Facing list text rows p at line n depth start m starts ends ws₀ ws img firsts)
-      → Told r.why list text rows p r f.under.progress.before f.under.progress.tokens start starts' ends' ws₀ ws ws' img' firsts'
+  pub facing : Facing list text rows p at line n depth start m spans ws₀ ws img firsts

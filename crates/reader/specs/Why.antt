@@ -1,7 +1,7 @@
 -- Where the reading of a text ended, told to a person: what stood there and what could have stood there. The places before it are right; the one that follows
 -- them is wrong, or it is the end of the text. "Could" is of the grammar and of kinds alone, whatever the name, the field or the number (`GoesOn`), not of the list
 -- or the limits. Order 1 asks for number and line; the rest is for the eye. Every word of it is determined (proofs/WhyOne). Assumes nothing.
-use Rattle.std.specs.Prelude.{ℕ, zero, suc, ◌<◌, ◌≤◌, ◌≡◌, Bool, true, false, List, ◌∷◌, ◌++◌, length, get_or}
+use Rattle.std.specs.Prelude.{ℕ, zero, suc, ◌<◌, ◌≤◌, ◌≡◌, Bool, true, false, Result, Ok, Err, List, ◌∷◌, ◌++◌, length, get_or}
 use Rattle.grammar.specs.Tokens.{Tok}
 use Rattle.grammar.specs.Places.{Spot, spot, Spelled, last_line}
 use Rattle.grammar.specs.FieldList.{Entry}
@@ -13,7 +13,14 @@ use Rattle.fieldlist.specs.declared.FieldRows.{FieldRows}
 use Rattle.fieldlist.specs.Answer.{entries_of}
 use Rattle.letters.specs.Upto.{piece_at, Upto}
 use Rattle.reader.specs.Says.{cleared}
+use Rattle.reader.specs.declared.ReadError.{ReadError}
 use Rattle.reader.specs.declared.why.Why.{Why}
+
+-- ---- what is told of how a reading ended, and of the place where it did
+
+abbrev pub why_of : Result Unit ReadError → Place → List Bool → Why
+why_of (Ok u) p could = record { why = 0; line = p.line; kind = p.kind; from = p.from; to = p.to; could = could }
+why_of (Err e) p could = record { why = e.number; line = e.line; kind = p.kind; from = p.from; to = p.to; could = could }
 
 -- ---- the answer, by its number
 

@@ -3,19 +3,17 @@
 // the image is made in a buffer of its own and goes out whole or not at all.
 #![tactic(auto)]
 
-mod step;
 mod text;
 pub mod why;
 
-ghost use Rattle.std.specs.Prelude.{◌≡◌, ◌+◌, ◌*◌, ◌≤◌, ltb, length};
+ghost use Rattle.std.specs.Prelude.{◌≡◌, ◌+◌, ◌*◌, ◌≤◌, ◌++◌, ltb, length, drop, replicate};
 ghost use Rattle.grammar.specs.Reads.{most_bytes, words_for};
-ghost use Rattle.letters.specs.Table.{classes};
 ghost use Rattle.fieldlist.specs.Answer.{RightRows};
 ghost use Rattle.reader.specs.Says.{Listens, ReadSays};
 
-use building::{build, finish};
+use crate::text::Reading;
+use building::finish;
 use fieldlist::FieldRows;
-use letters::classes;
 
 const MOST_BYTES: usize = 16426;
 
@@ -33,38 +31,33 @@ fn too_few(words: usize, bytes: usize) -> bool
     words < 4 || (words - 4) / 3 < bytes
 }
 
+// The words that a text of so many bytes asks for become zero.
+fn clear(work: &mut [u32], bytes: usize)
+    requires { words_for bytes ≤ length work.old }
+    ensures { work.new ≡ replicate (words_for bytes) 0 ++ drop (words_for bytes) work.old }
+{
+    work[..3 * bytes + 4].fill(0);
+}
+
 // A text, with a list that is right and enough of all that is lent.
-fn read_listed(
-    k: &[u8; 256],
-    text: &[u8],
-    list: &[u8],
-    rows: FieldRows,
+fn read_listed<'a>(
+    text: &'a [u8],
+    list: &'a [u8],
+    rows: &'a FieldRows,
     work: &mut [u32],
     out: &mut [u8],
 ) -> Result<usize, ReadError>
-    requires k_value { k.now ≡ classes }
-    requires right_rows { RightRows list.now rows }
+    requires right_rows { RightRows list.now rows.now }
     requires text_in_bounds { (words_for (length text.now) ≤ length work.old) × (most_bytes ≤ length out.old) }
-    ensures { Listens list.now text.now rows result work.old out.old work.new out.new }
+    ensures { Listens list.now text.now rows.now result work.old out.old work.new out.new }
 {
-    let count = rows.count;
-    let start = 10 + 2 * count;
-    let mut img = [0u8; 16426];
-    let mut firsts = [0u16; 2048];
-    work[0] = dues::COMMAND;
-    let e = text::read_text(k, text, list, rows, work, &mut img, &mut firsts, start);
-    let why = e.why;
-    build::clear(work, 3 * text.len() + 4);
-    if why != 0 {
-        return Err(ReadError {
-            number: why,
-            line: e.line,
-        });
-    }
-    let listed = rows.codes;
-    let codes = finish::narrow(&listed);
-    let n = finish::put_image(&mut img, &codes, count, e.nodes, e.names, out);
-    Ok(n)
+    let mut reading = Reading::new(text, list, rows, work);
+    let read = reading.read_all(work);
+    clear(work, text.len());
+    read?;
+    let codes = finish::narrow(&rows.codes);
+    let names = reading.names;
+    Ok(reading.nodes.put_image(&codes[..rows.count], names, out))
 }
 
 // What no line of the text is the reason of.
@@ -95,11 +88,8 @@ pub fn read(text: &[u8], list: &[u8], work: &mut [u32], out: &mut [u8]) -> Resul
     if too_few(work.len(), text.len()) {
         return Err(SHORT_WORK);
     }
-    let k = classes::class_table();
-    let rows = fieldlist::rows(&k, list);
-    let why = rows.why;
-    if why != 0 {
+    let Ok(rows) = fieldlist::rows(list) else {
         return Err(BAD_LIST);
-    }
-    read_listed(&k, text, list, rows, work, out)
+    };
+    read_listed(text, list, &rows, work, out)
 }

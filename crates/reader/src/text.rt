@@ -1,114 +1,155 @@
-// A whole text, place by place.
-ghost use Rattle.std.specs.Prelude.{◌≡◌, ◌+◌, ◌*◌, ◌≤◌, length, get_or, replicate};
-ghost use Rattle.rules.specs.Image.{most_nodes};
-ghost use Rattle.grammar.specs.Reads.{words_for, most_bytes};
-ghost use Rattle.letters.specs.Table.{classes};
+// A whole text, place by place: each is judged first, and then written down.
+ghost use Rattle.std.specs.Prelude.{◌≡◌, ◌+◌, ◌<◌, ◌≤◌, length};
+ghost use Rattle.std.specs.Option.{ForSome};
+ghost use Rattle.grammar.specs.Reads.{words_for};
 ghost use Rattle.fieldlist.specs.Answer.{RightRows};
+ghost use Rattle.building.specs.Built.{Passed};
+ghost use Rattle.reader.specs.Steps.{at_end, Begins, FacesPlace, StepSays, Takes, UnderReading};
 ghost use Rattle.reader.specs.Says.{TextSays};
 
-use crate::step;
-use building::finish;
-use building::finish::Whole;
+use crate::ReadError;
+use building::finish::EndError;
+use building::nodes::Nodes;
+use dues::{Dues, Made, stack};
 use fieldlist::FieldRows;
+use fieldlist::names::Span;
+use judging::judge;
 use letters::places;
 use letters::places::Place;
 
-// `why` is 0, and there are so many nodes and names; or the number of what is wrong, and its line. The reading ended at `place`, and so many things are
-// due there.
-#[derive(Clone, Copy)]
-pub struct Ending {
-    pub why: u32,
-    pub line: usize,
-    pub nodes: usize,
-    pub names: usize,
+const EARLY_END: u32 = 23;
+
+const TOO_MANY_NODES: u32 = 27;
+
+/// A text that is being read: all that was read of it stands in the lent words and in buffers of its own.
+#[derive(Drop)]
+pub struct Reading<'a> {
+    text: &'a [u8],
+    list: &'a [u8],
+    rows: &'a FieldRows,
+    /// The place that was read last; or where the reading ended, the one that is wrong or the end of the text.
     pub place: Place,
+    /// How many things are due; they stand in the first of the lent words.
     pub depth: usize,
+    /// Its nodes so far.
+    pub nodes: Nodes,
+    /// Where each of its names first stands: `names` of them, and room for as many as there may be.
+    spans: [Span; 128],
+    pub names: usize,
 }
 
-// Too many nodes are no place's fault, and have no line.
-fn at_end(w: Whole, place: Place, names: usize, depth: usize) -> Ending
-    ensures why_value { (result.why ≡ w.why) × (result.nodes ≡ w.nodes) × (result.names ≡ names) × (result.place ≡ place) × (result.depth ≡ depth) }
-    ensures line_value { (w.why ≡ 27 → result.line ≡ 0) × ((w.why ≡ 27 → ⊥) → result.line ≡ place.line) }
+// What is wrong where the text ends on this line. Too many nodes are no line's fault.
+fn at_end(fault: EndError, line: usize) -> ReadError
+    ensures { result ≡ at_end fault line }
 {
-    let why = w.why;
-    let nodes = w.nodes;
-    let mut line = place.line;
-    if why == 27 {
-        line = 0;
-    }
-    Ending {
-        why,
-        line,
-        nodes,
-        names,
-        place,
-        depth,
+    match fault {
+        EndError::Early => ReadError {
+            number: EARLY_END,
+            line,
+        },
+        EndError::TooManyNodes => ReadError {
+            number: TOO_MANY_NODES,
+            line: 0,
+        },
     }
 }
 
-// The places one after the other, until one is wrong or the text ends. The stack holds what is due at the start.
-pub fn read_text(
-    k: &[u8; 256],
-    text: &[u8],
-    list: &[u8],
-    rows: FieldRows,
-    work: &mut [u32],
-    img: &mut [u8],
-    firsts: &mut [u16],
-    start: usize,
-) -> Ending
-    requires k_value { k.now ≡ classes }
-    requires right_rows { RightRows list.now rows }
-    requires text_in_bounds { (words_for (length text.now) ≤ length work.old) × (get_or work.old 0 0 ≡ 1) }
-    requires img_len { (length img.old ≡ most_bytes) × (firsts.old ≡ replicate most_nodes 0) × (start ≤ 42) }
-    ensures { TextSays list.now text.now rows start result work.old work.new img.new firsts.new }
-{
-    let mut starts = [0usize; 128];
-    let mut ends = [0usize; 128];
-    let mut at: usize = 0;
-    let mut line: usize = 1;
-    let mut depth: usize = 1;
-    let mut m: usize = 0;
-    let mut n: usize = 0;
-    loop {
-        let p = places::next(k, text, at, line);
-        let kind = p.kind;
-        let on = p.line;
-        let to = p.to;
-        if kind == 0 {
-            let w = finish::end_text(work, depth, img, firsts, start, m);
-            return at_end(w, p, n, depth);
-        }
-        let s = step::read_place(
+impl<'a> Reading<'a> {
+    /// Nothing is read yet of a text, whose list is right: a command is due.
+    pub fn new(text: &'a [u8], list: &'a [u8], rows: &'a FieldRows, work: &mut [u32]) -> Reading<'a>
+        requires right_rows { RightRows list.now rows.now }
+        requires enough { words_for (length text.now) ≤ length work.old }
+        ensures { Begins text.now list.now rows.now work.old work.new result }
+    {
+        work[0] = dues::COMMAND;
+        Reading {
             text,
             list,
             rows,
-            p,
-            work,
-            depth,
-            img,
-            firsts,
-            start,
-            m,
-            &mut starts,
-            &mut ends,
-            n,
-        );
-        let why = s.why;
-        if why != 0 {
-            return Ending {
-                why,
-                line: on,
-                nodes: 0,
-                names: 0,
-                place: p,
-                depth,
-            };
+            place: Place {
+                kind: 0,
+                from: 0,
+                to: 0,
+                line: 1,
+            },
+            depth: 1,
+            nodes: Nodes::new(10 + 2 * rows.count),
+            spans: [Span { from: 0, to: 0 }; 128],
+            names: 0,
         }
-        at = to;
-        line = on;
-        depth = s.depth;
-        m = s.nodes;
-        n = s.names;
+    }
+
+    // The token is taken where `at` things due stand below: the nodes of what it passes, its own node, and what is due instead.
+    fn take(&mut self, work: &mut [u32], at: usize, kind: u32, due: Dues, made: Option<Made>)
+        requires passed { Passed work.old self.old.depth (at + 1) kind }
+        requires tag_fits { ForSome made (λ m. m.tag < 65536) }
+        requires room { at + 4 ≤ length work.old }
+        ensures { Takes kind at due made self.old self.new work.old work.new }
+    {
+        let depth = self.depth;
+        self.nodes.put_passed(work, depth, at + 1, kind);
+        self.nodes.put(made);
+        self.depth = stack::put(work, at, due);
+    }
+
+    // The place that follows what was read. A name that is new is stored behind the others.
+    fn read_place(&mut self, work: &mut [u32]) -> Result<(), ReadError>
+        requires right_rows { RightRows self.old.list.now self.old.rows.now }
+        requires faces { FacesPlace self.old work.old }
+        requires kind_nonzero { 0 < self.old.place.kind }
+        ensures { StepSays self.old self.new work.old work.new result }
+    {
+        let Reading {
+            text,
+            list,
+            rows,
+            place,
+            depth,
+            names,
+            ..
+        } = *self;
+        let taken = match judge::judge(text, list, rows, place, work, depth, &self.spans[..names]) {
+            Ok(taken) => taken,
+            Err(wrong) => {
+                return Err(ReadError {
+                    number: wrong.number(),
+                    line: place.line,
+                });
+            }
+        };
+        self.take(work, taken.at, place.kind, taken.dues, taken.made);
+        if taken.new {
+            self.spans[names] = Span {
+                from: place.from,
+                to: place.to,
+            };
+            self.names = names + 1;
+        }
+        Ok(())
+    }
+
+    /// The places one after the other, until one is wrong or the text ends.
+    pub fn read_all(&mut self, work: &mut [u32]) -> Result<(), ReadError>
+        requires right_rows { RightRows self.old.list.now self.old.rows.now }
+        requires begins { UnderReading self.old self.old.place.to self.old.place.line work.old work.old }
+        ensures { TextSays self.old self.new work.old work.new result }
+    {
+        'places: loop {
+            let Reading {
+                text,
+                place: last,
+                ..
+            } = *self;
+            let place = places::next(text, last.to, last.line);
+            self.place = place;
+            if place.kind == 0 {
+                let depth = self.depth;
+                return match self.nodes.end(work, depth) {
+                    Ok(()) => Ok(()),
+                    Err(fault) => Err(at_end(fault, place.line)),
+                };
+            }
+            self.read_place(work)?;
+        }
     }
 }

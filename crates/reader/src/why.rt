@@ -2,17 +2,18 @@
 // once more, so that `read` has nothing to do with it.
 ghost use Rattle.std.specs.Prelude.{◌≡◌, List, ◌≤◌, length};
 ghost use Rattle.grammar.specs.Reads.{words_for};
-ghost use Rattle.letters.specs.Table.{classes};
 ghost use Rattle.reading.specs.Table.{Due};
 ghost use Rattle.fieldlist.specs.Answer.{RightRows};
 ghost use Rattle.dues.specs.Stack.{Stacked, Standing};
 ghost use Rattle.reader.specs.Taking.{KindSays, KindsSay};
-ghost use Rattle.reader.specs.Why.{WhySays};
+ghost use Rattle.reader.specs.Why.{why_of, WhySays};
 
-use crate::text;
-use building::build;
-use dues::{Taker, stack};
+use crate::text::Reading;
+use crate::{ReadError, clear};
+use building::nodes;
+use dues::stack;
 use fieldlist::FieldRows;
+use letters::places::Place;
 
 // `why` is 0, and the text is read whole; or it is the number of what is wrong, 22 to 27, and `line` its line. There stands what is from byte `from`
 // up to `to`, of this kind: 1 to 28 a token's, 29 a bad byte; 0 is the end of the text. could[k]: the text can go on there with a token of kind k;
@@ -32,11 +33,7 @@ fn takes(work: &[u32], depth: usize, k: u32) -> bool
     requires { Standing depth work.now }
     ensures { (ds : List Due) → Stacked ds depth work.now → KindSays ds k result }
 {
-    let t = stack::taker(work, depth, k);
-    match t {
-        Taker::At(_) => true,
-        Taker::Nowhere => false,
-    }
+    stack::taker(work, depth, k).is_some()
 }
 
 // Whether the text may end, and each kind from 1 on.
@@ -45,42 +42,39 @@ fn kinds(work: &[u32], depth: usize) -> [bool; 29]
     ensures { (ds : List Due) → Stacked ds depth work.now → KindsSay ds result }
 {
     let mut could = [false; 29];
-    could[0] = build::all_pass(work, depth);
-    let mut k: usize = 1;
-    while k < 29 {
+    could[0] = nodes::all_pass(work, depth);
+    for k in 1..29 {
         could[k] = takes(work, depth, k as u32);
-        k += 1;
     }
     could
 }
 
-// A text, with a list that is right and enough words lent.
-pub fn why_refused(
-    k: &[u8; 256],
-    text: &[u8],
-    list: &[u8],
-    rows: FieldRows,
-    work: &mut [u32],
-) -> Why
-    requires k_value { k.now ≡ classes }
-    requires right_rows { RightRows list.now rows }
-    requires text_in_bounds { words_for (length text.now) ≤ length work.old }
-    ensures { WhySays list.now text.now rows result work.old work.new }
+fn told(read: Result<(), ReadError>, place: Place, could: [bool; 29]) -> Why
+    ensures { result ≡ why_of read place could }
 {
-    let start = 10 + 2 * rows.count;
-    let mut img = [0u8; 16426];
-    let mut firsts = [0u16; 2048];
-    work[0] = dues::COMMAND;
-    let e = text::read_text(k, text, list, rows, work, &mut img, &mut firsts, start);
-    let could = kinds(work, e.depth);
-    build::clear(work, 3 * text.len() + 4);
-    let p = e.place;
+    let (why, line) = match read {
+        Ok(()) => (0, place.line),
+        Err(error) => (error.number, error.line),
+    };
     Why {
-        why: e.why,
-        line: e.line,
-        kind: p.kind,
-        from: p.from,
-        to: p.to,
+        why,
+        line,
+        kind: place.kind,
+        from: place.from,
+        to: place.to,
         could,
     }
+}
+
+/// Reads a text once more, with a list that is right and enough words lent, and tells where the reading ends.
+pub fn why_refused<'a>(text: &'a [u8], list: &'a [u8], rows: &'a FieldRows, work: &mut [u32]) -> Why
+    requires right_rows { RightRows list.now rows.now }
+    requires text_in_bounds { words_for (length text.now) ≤ length work.old }
+    ensures { WhySays list.now text.now rows.now result work.old work.new }
+{
+    let mut reading = Reading::new(text, list, rows, work);
+    let read = reading.read_all(work);
+    let could = kinds(work, reading.depth);
+    clear(work, text.len());
+    told(read, reading.place, could)
 }

@@ -1,7 +1,6 @@
 -- `reader::why::takes` meets its contract. Assumes nothing.
-use borrow.Author.Rules.{rules}
-use Rattle.reader.proofs.TakingLaws.{is-taken}
+use Rattle.reader.proofs.TakingLaws.{kind-says}
 use Rattle.reader.proofs.why.takes.Goals as goal
 
-pub returns-in-At : goal.returns-in-At
-returns-in-At c = search (rules, is-taken)
+pub returns : goal.returns
+returns c = rw c.is_some.ensures (kind-says c.args.depth c.args.work.now c.args.k c.taker.result c.taker.ensures)
