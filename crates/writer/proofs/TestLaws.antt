@@ -22,6 +22,7 @@ use Rattle.writing.specs.WriteTokens.{ended_by}
 use Rattle.writer.specs.declared.forms.How.{How}
 use Rattle.writer.specs.declared.forms.How.TheVariants.{Nothing, Name, Field, Whole, Left, LeftOfDot, Right, RightOfDot, Callee, Target, Behind}
 use Rattle.writer.specs.Forms.{operand_ends, test_ends, passed, test_before}
+use Rattle.writer.specs.Walk.{HasTest}
 use Rattle.writer.specs.contracts.forms.How.{the_type}
 
 module _ (node : ℕ → Node) (t : ℕ) (h : kind_of (node t).tag ≡ some a_test) where
@@ -60,36 +61,40 @@ module _ (img : List ℕ) (g : Good img) (n : ℕ) (h : n < nodes_of img) (x : N
   fits : {k : ℕ} → x.tag ≡ k → GoodRow img n (row_of k) x
   fits t = subst (λ (j : ℕ). GoodRow img n (row_of j) x) t (rw w.is (g.nodes n h))
 
-  abbrev HasTest : Type 0
-  HasTest = (x.a < nodes_of img) × (kind_of (node_at img x.a).tag ≡ some a_test)
+  abbrev Tests : Type 0
+  Tests = (x.a < nodes_of img) × (kind_of (node_at img x.a).tag ≡ some a_test)
 
-  of-while : x.tag ≡ 39 → HasTest
+  of-while : x.tag ≡ 39 → Tests
   unfolding row_of row_in line_of line_in tags
   of-while t = let f = fits t in let l = f.0.0 in (omega arith, f.0.1)
 
-  of-if : x.tag ≡ 40 → HasTest
+  of-if : x.tag ≡ 40 → Tests
   unfolding row_of row_in line_of line_in tags
   of-if t = let f = fits t in let l = f.0.0 in (omega arith, f.0.1)
 
-  has-test : 39 ≤ x.tag → x.tag < 41 → HasTest
-  has-test a b = ⊎_elim of-while of-if (while-or-if x.tag a b)
+  tests-both : 39 ≤ x.tag → x.tag < 41 → Tests
+  tests-both a b = ⊎_elim of-while of-if (while-or-if x.tag a b)
 
-  pub test_inside : 39 ≤ x.tag → x.tag < 41 → x.a < nodes_of img
-  test_inside a b = (has-test a b).0
+  pub has_test : HasTest img x
+  has_test = record { inside = λ a b. (tests-both a b).0; kind = λ a b. (tests-both a b).1 }
 
-  module _ (a : 39 ≤ x.tag) (b : x.tag < 41) (k : ℕ) (i : k ≡ (node_at img x.a).tag) where
+module _ (img : List ℕ) (x : Node) (t : HasTest img x) (a : 39 ≤ x.tag) (b : x.tag < 41) where
+  pub test_inside : x.a < nodes_of img
+  test_inside = t.inside a b
+
+  module _ (k : ℕ) (i : k ≡ (node_at img x.a).tag) where
     before-is : {r : Bool} → r ≡ test_ends (tree_at (node_at img) x.a) → r ≡ test_before (tree_at (node_at img)) x.tag x.a
     unfolding test_before
-    before-is {r} e = ⊎_elim (λ (t : x.tag ≡ 39). rw t e) (λ (t : x.tag ≡ 40). rw t e) (while-or-if x.tag a b)
+    before-is {r} e = ⊎_elim (λ (j : x.tag ≡ 39). rw j e) (λ (j : x.tag ≡ 40). rw j e) (while-or-if x.tag a b)
 
     pub before_equal : k ≡ 18 → true ≡ test_before (tree_at (node_at img)) x.tag x.a
-    before_equal e = before-is (compares_equal img x.a k i (has-test a b).1 e)
+    before_equal e = before-is (compares_equal img x.a k i (t.kind a b) e)
 
     pub before_less : k ≡ 19 → true ≡ test_before (tree_at (node_at img)) x.tag x.a
-    before_less e = before-is (compares_less img x.a k i (has-test a b).1 e)
+    before_less e = before-is (compares_less img x.a k i (t.kind a b) e)
 
     pub before_no : (k ≡ 18 → ⊥) → (k ≡ 19 → ⊥) → false ≡ test_before (tree_at (node_at img)) x.tag x.a
-    before_no e f = before-is (compares_none img x.a k i (has-test a b).1 e f)
+    before_no e f = before-is (compares_none img x.a k i (t.kind a b) e f)
 
 pub before_none : (at : ℕ → Tree) (k a : ℕ) → (k ≡ 39 → ⊥) → (k ≡ 40 → ⊥) → false ≡ test_before at k a
 unfolding test_before

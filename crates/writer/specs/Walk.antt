@@ -2,7 +2,8 @@
 use Rattle.std.specs.Prelude.{ℕ, ◌+◌, ◌*◌, ◌<◌, ◌≤◌, ◌≡◌, Bool, List, [], ◌∷◌}
 use Rattle.std.proofs.Math.Option.{some}
 use Rattle.laws.specs.UpTo.{up_to}
-use Rattle.rules.specs.declared.Kind.TheVariants.{Exp as an_exp}
+use Rattle.rules.specs.declared.Node.{Node}
+use Rattle.rules.specs.declared.Kind.TheVariants.{Exp as an_exp, Test as a_test}
 use Rattle.rules.specs.Image.{nodes_of, names_of, fields_of, node_at, tree_at, kind_of}
 use Rattle.grammar.specs.Tokens.{field_name}
 use Rattle.writing.specs.WriteTokens.{write_int}
@@ -66,6 +67,11 @@ ChildFits img RightOfDot w = IsExp img w
 ChildFits img Callee w = IsExp img w
 ChildFits img Target w = IsExp img w
 ChildFits img Behind w = w < nodes_of img
+
+-- what a while or an if tests is a test
+pub record HasTest (img : List ℕ) (x : Node) : Type 0 where
+  pub inside : 39 ≤ x.tag → x.tag < 41 → x.a < nodes_of img
+  pub kind : 39 ≤ x.tag → x.tag < 41 → kind_of (node_at img x.a).tag ≡ some a_test
 
 -- ---- the measures of the way down: a node's words, their children, the child's node
 

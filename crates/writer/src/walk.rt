@@ -1,10 +1,9 @@
 // A node written from left to right, and its children in their places. The children's numbers fall, so the way down ends.
 ghost use Rattle.std.specs.Prelude.{◌≡◌, ◌<◌, ◌≤◌};
 ghost use Rattle.rules.specs.Image.{nodes_of, node_at, tree_at, fields_of, halves};
-ghost use Rattle.image.specs.Read.{NodeRead};
 ghost use Rattle.writer.specs.Forms.{test_before};
 ghost use Rattle.writer.specs.Fields.{words_for};
-ghost use Rattle.writer.specs.Walk.{WritesInt, WritesField, WritesNode, WritesChild, WritesWord, WordFits, ChildFits};
+ghost use Rattle.writer.specs.Walk.{WritesInt, WritesField, WritesNode, WritesChild, WritesWord, WordFits, ChildFits, HasTest};
 
 use crate::fields::Fields;
 use crate::forms::{How, form_of};
@@ -54,10 +53,10 @@ impl<'a> Spelling<'a> {
         }
     }
 
-    // Does an operand stand before word b of node n: does the test of a while or an if end with one?
+    // Does an operand stand before word b: does the test of a while or an if end with one?
     #[tactic(auto, using(crate::proofs::TestLaws::tests))]
-    fn test_before(&self, n: usize, x: Node) -> bool
-        requires { (n < nodes_of self.now.script.now) × NodeRead self.now.script.now n x }
+    fn test_before(&self, x: Node) -> bool
+        requires { HasTest self.now.script.now x }
         ensures { result ≡ test_before (tree_at (node_at self.now.script.now)) x.tag x.a }
     {
         let script = self.script;
@@ -112,7 +111,7 @@ impl<'a> Spelling<'a> {
             return;
         }
         let form = form_of(x.tag);
-        let behind_test = self.test_before(n, x);
+        let behind_test = self.test_before(x);
         pen.put_mark(form.first);
         pen.put_mark(form.second);
         self.put_word(pen, form.a, x.a, front);

@@ -1,6 +1,7 @@
 -- `put_child`, `put_node` and `put_word` meet their contracts: the words of a node are what its form asks for. Assumes nothing.
 use Rattle.std.proofs.Common.{rules}
 use Rattle.writer.proofs.WordLaws.{falls_a, falls_b, falls_c, word_a, word_b, word_c}
+use Rattle.writer.proofs.TestLaws.{has_test}
 use Rattle.writer.proofs.WalkLaws.{ways, child_grouped, child_plain, node_int, node_formed}
 use Rattle.writer.proofs.spelling.Spelling.+put_child_put_node_put_word.Goals as goal
 
@@ -16,6 +17,10 @@ put_child-returns t c =
 
 pub put_node-returns-then-x-eq-INTEGER : goal.put_node-returns-then-x-eq-INTEGER
 put_node-returns-then-x-eq-INTEGER t c = node_int _ _ _ _ _ (rw c.script.view_is at c.read-x.ensures) _ _ c.if-x-eq-INTEGER.true c.put_int.ensures
+
+pub put_node-test_before-behind_test-requires : goal.put_node-test_before-behind_test-requires
+put_node-test_before-behind_test-requires t c =
+    has_test _ (rw c.script.view_is at c.script.invariant) _ c.requires _ (rw c.script.view_is at c.read-x.ensures)
 
 pub put_node-put_word-requires : goal.put_node-put_word-requires
 put_node-put_word-requires t c =
