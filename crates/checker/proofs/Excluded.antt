@@ -15,9 +15,9 @@ use Rattle.checklaws.proofs.BitLaws.{shows-none, shows-some}
 use Rattle.rules.proofs.Opens.{opens}
 use Rattle.cases.proofs.Cases.{skip_alone}
 
--- what `check` of src/lib.rt ensures, of any function
-abbrev pub Meets : (ℕ → List ℕ → ℕ → ℕ → Verdict) → Type 0
-Meets f = (words : ℕ) (img : List ℕ) (low high : ℕ) (visible : Names) → Shows low high visible → f words img low high ≡ check visible words img
+-- what `check` of src/lib.rt ensures of the verdict that its answer is, of any function
+abbrev pub Meets : (ℕ → List ℕ → ℕ → Verdict) → Type 0
+Meets f = (words : ℕ) (img : List ℕ) (names : ℕ) (visible : Names) → Shows names visible → f words img names ≡ check visible words img
 
 pub accepts-one : check [] size skip_alone ≡ Accepted
 unfolding opens
@@ -30,15 +30,15 @@ refuses-one = refl
 differ : (k p : ℕ) → Accepted ≡ Refused k p → ⊥
 differ k p e = let z : ◌≡◌ {A = ℕ} 0 1 = cc in absurd (omega arith)
 
-module _ (f : ℕ → List ℕ → ℕ → ℕ → Verdict) (meets : Meets f) where
-  pub not-all-accepted : ((words : ℕ) (img : List ℕ) (low high : ℕ) → f words img low high ≡ Accepted) → ⊥
-  not-all-accepted all = differ 1 0 (sym (all size [] 0 0) ∙ meets size [] 0 0 [] shows-none ∙ refuses-one)
+module _ (f : ℕ → List ℕ → ℕ → Verdict) (meets : Meets f) where
+  pub not-all-accepted : ((words : ℕ) (img : List ℕ) (names : ℕ) → f words img names ≡ Accepted) → ⊥
+  not-all-accepted all = differ 1 0 (sym (all size [] 0) ∙ meets size [] 0 [] shows-none ∙ refuses-one)
 
-  pub not-all-refused : (k p : ℕ → List ℕ → ℕ → ℕ → ℕ) → ((words : ℕ) (img : List ℕ) (low high : ℕ) → f words img low high ≡ Refused (k words img low high) (p words img low high)) → ⊥
-  not-all-refused k p all = differ _ _ (sym accepts-one ∙ sym (meets size skip_alone 0 0 [] shows-none) ∙ all size skip_alone 0 0)
+  pub not-all-refused : (k p : ℕ → List ℕ → ℕ → ℕ) → ((words : ℕ) (img : List ℕ) (names : ℕ) → f words img names ≡ Refused (k words img names) (p words img names)) → ⊥
+  not-all-refused k p all = differ _ _ (sym accepts-one ∙ sym (meets size skip_alone 0 [] shows-none) ∙ all size skip_alone 0)
 
   -- any other that meets it answers the same
-  pub only_one : (g : ℕ → List ℕ → ℕ → ℕ → Verdict) → Meets g → (words : ℕ) (img : List ℕ) (low high : ℕ) → f words img low high ≡ g words img low high
-  only_one g also words img low high =
-      let s = shows-some low high in
-      meets words img low high _ s ∙ sym (also words img low high _ s)
+  pub only_one : (g : ℕ → List ℕ → ℕ → Verdict) → Meets g → (words : ℕ) (img : List ℕ) (names : ℕ) → f words img names ≡ g words img names
+  only_one g also words img names =
+      let s = shows-some names in
+      meets words img names _ s ∙ sym (also words img names _ s)

@@ -1,155 +1,104 @@
-// The check of a script image (document 01, "Refused scripts"): the first broken rule in the fixed order, and its place.
-// Each group of rules has its own function; a reason is its number, and 0 is none. Linear in the number of nodes.
+//! The check of a script image (document 01, "Refused scripts"): the first broken rule in the fixed order, and its place.
+//! Each group of rules has its own function. Linear in the number of nodes.
 
 #![tactic(auto)]
 
-ghost use Rattle.std.specs.Prelude.{◌≡◌, ◌<◌, ◌≤◌, length};
-ghost use Rattle.rules.specs.Image.{fields_of, nodes_of};
+ghost use Rattle.std.specs.Prelude.{◌≡◌, ◌<◌, ◌≤◌, length, IfOk};
+ghost use Rattle.rules.specs.Image.{fields_of};
 ghost use Rattle.rules.specs.Refusals.{bad_contents, check};
 ghost use Rattle.rules.specs.Scope.{Names};
-ghost use Rattle.rules.proofs.GoodFacts.{Sized};
-ghost use Rattle.rules.specs.declared.Verdict.TheVariants.{Accepted};
-ghost use Rattle.checklaws.specs.Rest.{uses_say, nodes_say, bodies_say};
+ghost use Rattle.image.specs.Refusals.{verdict_of};
 ghost use Rattle.checklaws.specs.Bits.{Shows};
-ghost use Rattle.checklaws.specs.Pieces.{refusal, head_reason, code_rules, node_rules, place_says, rules_say};
+ghost use Rattle.checklaws.specs.Pieces.{refusal, head_reason, code_rules, place_says, rules_say};
 
-use rules::{MOST_FIELDS, MOST_NAMES, MOST_NODES, SIZE, Verdict};
+use image::{Image, Refusal, Script};
+use rules::{MOST_FIELDS, MOST_NAMES, MOST_NODES, SIZE};
 
 // ---- 10, 1, 2 and 3
 
 // 2: is a start or a count in the contents wrong?
 #[tactic(auto, using(checklaws::proofs::Head::contents))]
-fn contents_wrong(img: &[u8]) -> bool
-    requires { 10 ≤ length img.now }
-    ensures { result ≡ bad_contents img.now }
+fn contents_wrong(bytes: &[u8]) -> bool
+    requires { 10 ≤ length bytes.now }
+    ensures { result ≡ bad_contents bytes.now }
 {
-    if image::word(img, 0) != 10 {
+    let field_start = image::word(bytes, 0);
+    let fields = image::fields(bytes);
+    let node_start = image::word(bytes, 4);
+    let nodes = image::nodes(bytes);
+    if field_start != 10
+        || MOST_FIELDS < fields
+        || node_start != 10 + 2 * fields
+        || nodes == 0
+        || MOST_NODES < nodes
+    {
         return true;
     }
-    let f = image::fields(img);
-    if MOST_FIELDS < f {
-        return true;
-    }
-    if image::word(img, 4) != 10 + 2 * f {
-        return true;
-    }
-    let m = image::nodes(img);
-    if m == 0 {
-        return true;
-    }
-    if MOST_NODES < m {
-        return true;
-    }
-    MOST_NAMES < image::names(img)
+    MOST_NAMES < image::names(bytes)
 }
 
 #[tactic(auto, using(checklaws::proofs::Head::heads))]
-fn head(script: &[u8], words: usize) -> u32
-    ensures { result ≡ head_reason words script.now }
+fn head<'a>(bytes: &'a [u8], workspace_words: usize) -> Result<Image<'a>, Refusal>
+    ensures says { verdict_of result ≡ refusal (head_reason workspace_words bytes.now) 0 }
+    ensures same { IfOk result (λ image. image ≡ bytes.now) }
 {
-    if words < SIZE {
-        return 10;
+    if workspace_words < SIZE {
+        return Err(Refusal::Workspace);
     }
-    if script.len() < 10 {
-        return 1;
+    if bytes.len() < 10 {
+        return Err(Refusal::Short);
     }
-    if contents_wrong(script) {
-        return 2;
+    if contents_wrong(bytes) {
+        return Err(Refusal::Contents);
     }
-    let f = image::fields(script);
-    let m = image::nodes(script);
-    if script.len() == 10 + 2 * f + 8 * m {
-        0
-    } else {
-        3
+    if bytes.len() != 10 + 2 * image::fields(bytes) + 8 * image::nodes(bytes) {
+        return Err(Refusal::Length);
     }
+    Ok(Image::new(bytes))
 }
 
 // ---- 4
 
 // Is the code at a position zero, or not above the one before?
 #[tactic(auto, using(checklaws::proofs::Words::coding))]
-fn code_reason(img: &[u8], i: usize) -> u32
-    requires sized { Sized img.now }
-    requires i_bound { i < fields_of img.now }
-    ensures { refusal result i ≡ place_says img.now code_rules i }
+fn check_code(image: &Image, i: usize) -> Result<(), Refusal>
+    requires i_bound { i < fields_of image.now }
+    requires small { i < 16 }
+    ensures { verdict_of result ≡ place_says image.now code_rules i }
 {
-    let k = image::code(img, i);
-    if k == 0 {
-        return 4;
+    let code = image.code(i);
+    if code == 0 || 0 < i && code <= image.code(i - 1) {
+        return Err(Refusal::Code(i as u32));
     }
-    if i == 0 {
-        return 0;
-    }
-    let j = image::code(img, i - 1);
-    if k <= j { 4 } else { 0 }
+    Ok(())
 }
 
 #[tactic(auto, using(checklaws::proofs::Places::placing))]
-fn codes(img: &[u8]) -> Verdict
-    requires { Sized img.now }
-    ensures { result ≡ rules_say img.now code_rules (fields_of img.now) }
+fn codes(image: &Image) -> Result<(), Refusal>
+    ensures { verdict_of result ≡ rules_say image.now code_rules (fields_of image.now) }
 {
-    let f = image::fields(img);
-    let mut i: usize = 0;
-    while i < f {
-        let k = code_reason(img, i);
-        if k != 0 {
-            return Verdict::Refused(k, i as u32);
-        }
-        i += 1;
+    for i in 0..image.fields() {
+        check_code(image, i)?;
     }
-    Verdict::Accepted
+    Ok(())
 }
 
-// ---- the whole check: each group is looked at when no earlier rule is broken; low and high are the names visible at the root
+// ---- the whole check
 
-#[tactic(auto, using(checklaws::proofs::Formed::formed, checklaws::proofs::Whole::wholes), unfolding(checklaws::specs::Rest::uses_say))]
-fn uses_on(img: &[u8], low: u64, high: u64) -> Verdict
-    requires sized { Sized img.now }
-    requires img_value { rules_say img.now node_rules (nodes_of img.now) ≡ Accepted }
-    ensures { (visible : Names) → Shows low high visible → result ≡ uses_say visible img.now }
+/// The bytes as a script, or the first broken rule in the fixed order and its place; for any bytes, any length of the workspace and
+/// any names visible at the root: bit x of `visible` is name x. A group of rules is looked at when no earlier one is broken.
+pub fn check<'a>(
+    script: &'a [u8],
+    workspace_words: usize,
+    visible: u128,
+) -> Result<Script<'a>, Refusal>
+    ensures says { (names : Names) → Shows visible names → verdict_of result ≡ check names workspace_words script.now }
+    ensures same { IfOk result (λ checked. checked ≡ script.now) }
 {
-    let v = usecheck::all_uses(img);
-    match v {
-        Verdict::Accepted => namecheck::all_names(img, low, high),
-        Verdict::Refused(k, p) => Verdict::Refused(k, p),
-    }
-}
-
-#[tactic(auto, using(checklaws::proofs::Whole::wholes), unfolding(checklaws::specs::Rest::nodes_say))]
-fn nodes_on(img: &[u8], low: u64, high: u64) -> Verdict
-    requires { Sized img.now }
-    ensures { (visible : Names) → Shows low high visible → result ≡ nodes_say visible img.now }
-{
-    let v = nodecheck::all_nodes(img);
-    match v {
-        Verdict::Accepted => uses_on(img, low, high),
-        Verdict::Refused(k, p) => Verdict::Refused(k, p),
-    }
-}
-
-#[tactic(auto, using(checklaws::proofs::Whole::wholes), unfolding(checklaws::specs::Rest::bodies_say))]
-fn bodies(img: &[u8], low: u64, high: u64) -> Verdict
-    requires { Sized img.now }
-    ensures { (visible : Names) → Shows low high visible → result ≡ bodies_say visible img.now }
-{
-    let v = codes(img);
-    match v {
-        Verdict::Accepted => nodes_on(img, low, high),
-        Verdict::Refused(k, p) => Verdict::Refused(k, p),
-    }
-}
-
-// Accepted, or the first broken rule in the fixed order and its place; for every script, every length of workspace and any
-// names visible at the root: bit x of low is name x, bit x of high is name 64 + x.
-#[tactic(auto, using(checklaws::proofs::Whole::wholes, checklaws::proofs::Head::heads))]
-pub fn check(script: &[u8], workspace_words: usize, low: u64, high: u64) -> Verdict
-    ensures { (visible : Names) → Shows low high visible → result ≡ check visible workspace_words script.now }
-{
-    let k = head(script, workspace_words);
-    if k != 0 {
-        return Verdict::Refused(k, 0);
-    }
-    bodies(script, low, high)
+    let image = head(script, workspace_words)?;
+    codes(&image)?;
+    nodecheck::all_nodes(&image)?;
+    usecheck::all_uses(&image)?;
+    namecheck::all_names(&image, visible)?;
+    Ok(Script { image })
 }

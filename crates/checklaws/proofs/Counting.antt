@@ -21,7 +21,6 @@ use Rattle.rules.specs.declared.Row.{Row}
 use Rattle.rules.specs.Image.{row_of, nodes_of, node_at}
 use Rattle.rules.specs.Refusals.{hit, hits, uses_of}
 use Rattle.rules.specs.contracts.Role.{the_type}
-use Rattle.rules.proofs.GoodFacts.{Sized}
 use Rattle.checklaws.specs.Counts.{Most, Ticks, TicksAll, Counts}
 
 -- ---- one word
@@ -133,29 +132,23 @@ module _ (img : List ℕ) where
       let b = hits-small (row_of (node_at img m).tag) (node_at img m) k in
       omega arith
 
-  pub counts-most : (n : ℕ) (t : List ℕ) → Sized img → n < nodes_of img → Counts img n t → Most 60000 t
-  counts-most n t s l h = record { most = go }
+  pub counts-most : (n : ℕ) (t : List ℕ) → n < 2048 → Counts img n t → Most 60000 t
+  counts-most n t l h = record { most = go }
     where
       go : (k : ℕ) → get_or t k 0 ≤ 60000
       go k =
           elim (dec_lt k (length t)) [
-            | yes i ↦ let e = h.counts k i in let x = uses-small k n in let z = s.few-nodes in omega arith
+            | yes i ↦ let e = h.counts k i in let x = uses-small k n in omega arith
             | no f ↦
                 let z : get_or t k 0 ≡ 0 = get_or-eq_default t 0 (omega arith) in
                 omega arith
           ]
 
-  counts-none : (z : ℕ) → nodes_of img ≤ z → Counts img 0 (replicate z 0)
+  pub counts-none : (z : ℕ) → nodes_of img ≤ z → Counts img 0 (replicate z 0)
   unfolding uses_of
   counts-none z h =
       let e : length (replicate {A = ℕ} z 0) ≡ z = length-replicate {A = ℕ} z 0 in
       record { long = omega arith; counts = λ k l. get_or-replicate {A = ℕ} z k 0 0 (omega arith) }
-
-  pub counts-short : (z m : ℕ) → m ≡ nodes_of img → m ≤ z → Counts img 0 (replicate z 0)
-  counts-short z m e l = counts-none z (omega arith)
-
-  pub counts-long : Sized img → Counts img 0 (replicate 2048 0)
-  counts-long s = counts-none 2048 (let z = s.few-nodes in omega arith)
 
   one_more : (n : ℕ) (t t' : List ℕ)
       → Counts img n t
@@ -187,4 +180,4 @@ module _ (img : List ℕ) where
 
 pub ruleset ticking = (a-child, no-child, room-first, room-second, all_three)
 
-pub ruleset counting = (counts-short, counts-long, counts-most, no-tag-counts, node_counts, counts_end)
+pub ruleset counting = (counts-none, counts-most, no-tag-counts, node_counts, counts_end)

@@ -33,10 +33,11 @@ module _ (img : List ℕ) where
   unfolding rules_say
   passed rs n e p l r i = at-accepted (broken [] size img) rs p (low-accepted (broken [] size img) rs n e p l) r i
 
-  pub formed : (v : Verdict) → Sized img → rules_say img node_rules (nodes_of img) ≡ Accepted → v ≡ rules_say img use_rules (nodes_of img) → v ≡ Accepted → Formed img
+  pub formed : Sized img → Accepted ≡ rules_say img node_rules (nodes_of img) → Accepted ≡ rules_say img use_rules (nodes_of img) → Formed img
   unfolding rule_of rule
-  formed v z e h a =
-      let f = sym h ∙ a in
+  formed z h i =
+      let e = sym h in
+      let f = sym i in
       record {
         sized = z;
         nodes = λ n l.
@@ -94,33 +95,44 @@ module _ (visible : Names) (img : List ℕ) where
   unfolding names_say lowest or_else
   down-end n v z h = rw z at h
 
--- between two turns, from the lists los₀ and his₀: the names that the nodes from n up handed down, and the answer for them
-pub record Down (img los₀ his₀ : List ℕ) (n : ℕ) (los his : List ℕ) (v : Verdict) : Type 0 where
-  pub shown : (visible : Names) → Shown visible img (nodes_of img) los₀ his₀ → Shown visible img n los his
-  pub says : (visible : Names) → Shown visible img (nodes_of img) los₀ his₀ → or_else (names_say visible img n) v ≡ names_say visible img (nodes_of img)
+-- between two turns, from the list held₀: the names that the nodes from n up handed down, and the answer for them
+pub record Down (img held₀ : List ℕ) (n : ℕ) (held : List ℕ) (v : Verdict) : Type 0 where
+  pub shown : (visible : Names) → Shown visible img (nodes_of img) held₀ → Shown visible img n held
+  pub says : (visible : Names) → Shown visible img (nodes_of img) held₀ → or_else (names_say visible img n) v ≡ names_say visible img (nodes_of img)
 
-pub down-begins : (img los his : List ℕ) (n : ℕ) → n ≡ nodes_of img → Down img los his n los his Accepted
-down-begins img los his n e =
+pub down-begins : (img held : List ℕ) (n : ℕ) → n ≡ nodes_of img → Down img held n held Accepted
+down-begins img held n e =
     record {
-      shown = λ visible h. handed-down-at visible img (nodes_of img) n los his (sym e) h;
+      shown = λ visible h. handed-down-at visible img (nodes_of img) n held (sym e) h;
       says = λ visible h. down-start visible img n e;
     }
 
-module _ (img los₀ his₀ los his : List ℕ) (n : ℕ) (v : Verdict) where
-  pub down-turns : (los' his' : List ℕ) (b : Bool) (u : Verdict)
+module _ (img held₀ held : List ℕ) (n : ℕ) (v : Verdict) where
+  down-turns : (held' : List ℕ) (b : Bool) (u : Verdict)
       → u ≡ cond b (Refused 9 (n - 1)) v
-      → ((visible : Names) → Shown visible img (n - 1 + 1) los his → (b ≡ stray_at visible img (n - 1)) × Shown visible img (n - 1) los' his')
-      → Down img los₀ his₀ n los his v → Formed img → n ≤ nodes_of img → 0 < n → Down img los₀ his₀ (n - 1) los' his' u
-  down-turns los' his' b u e visits d g l m =
+      → ((visible : Names) → Shown visible img (n - 1 + 1) held → (b ≡ stray_at visible img (n - 1)) × Shown visible img (n - 1) held')
+      → Down img held₀ n held v → Formed img → n ≤ nodes_of img → 0 < n → Down img held₀ (n - 1) held' u
+  down-turns held' b u e visits d g l m =
       record {
         shown = λ visible h. (visits visible (at visible h)).1;
         says = λ visible h. ap (or_else (names_say visible img (n - 1))) e ∙ down visible img (n - 1) n b v g (omega arith) (omega arith) (visits visible (at visible h)).0 (d.says visible h);
       }
     where
-      at : (visible : Names) → Shown visible img (nodes_of img) los₀ his₀ → Shown visible img (n - 1 + 1) los his
-      at visible h = handed-down-at visible img n (n - 1 + 1) los his (omega arith) (d.shown visible h)
+      at : (visible : Names) → Shown visible img (nodes_of img) held₀ → Shown visible img (n - 1 + 1) held
+      at visible h = handed-down-at visible img n (n - 1 + 1) held (omega arith) (d.shown visible h)
 
-  pub down_ends : Down img los₀ his₀ n los his v → n ≤ 0 → (visible : Names) → Shown visible img (nodes_of img) los₀ his₀ → v ≡ names_say visible img (nodes_of img)
+  -- node n - 1 strays, or it doesn't
+  pub down-strays : (held' : List ℕ) (b : Bool) → b ≡ true
+      → ((visible : Names) → Shown visible img (n - 1 + 1) held → (b ≡ stray_at visible img (n - 1)) × Shown visible img (n - 1) held')
+      → Down img held₀ n held v → Formed img → n ≤ nodes_of img → 0 < n → Down img held₀ (n - 1) held' (Refused 9 (n - 1))
+  down-strays held' b e = down-turns held' b (Refused 9 (n - 1)) (rw e)
+
+  pub down-keeps : (held' : List ℕ) (b : Bool) → b ≡ false
+      → ((visible : Names) → Shown visible img (n - 1 + 1) held → (b ≡ stray_at visible img (n - 1)) × Shown visible img (n - 1) held')
+      → Down img held₀ n held v → Formed img → n ≤ nodes_of img → 0 < n → Down img held₀ (n - 1) held' v
+  down-keeps held' b e = down-turns held' b v (rw e)
+
+  pub down_ends : Down img held₀ n held v → n ≤ 0 → (visible : Names) → Shown visible img (nodes_of img) held₀ → v ≡ names_say visible img (nodes_of img)
   down_ends d l visible h = down-end visible img n v (omega arith) (d.says visible h)
 
-pub ruleset downward = (down-begins, down-turns, down_ends)
+pub ruleset downward = (down-begins, down-strays, down-keeps, down_ends)

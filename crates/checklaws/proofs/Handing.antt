@@ -1,6 +1,5 @@
--- Names handed down in two lists of words: the root holds the names visible there, and no other node any, at the
--- start (`fresh`, `shown-root`); and a node that is visited
--- hands its names on (`visited-row`, `visited-none`). Assumes nothing.
+-- Names handed down in a list: the root holds the names visible there, and no other node any, at the start (`shown-root`); and a
+-- node that is visited hands its names on (`visited-row`, `visited-none`). Assumes nothing.
 use Prim.Native.Nat.{ℕ, ◌+◌, ◌-◌, ◌<◌, ◌≤◌}
 use mathlib.Core.Path.{◌≡◌, refl, sym, ap, subst, ◌∙◌}
 use mathlib.Core.Bool.{Bool, true, false, cond}
@@ -28,7 +27,7 @@ use Rattle.rules.proofs.GoodFacts.{Fit, GoodRow}
 use Rattle.checklaws.specs.Pieces.{names_say}
 use Rattle.checklaws.specs.Hands.{Formed, handed, stray_at}
 use Rattle.rules.proofs.StrayRows.{stray_word, grow_word, stray_row, grow_row}
-use Rattle.checklaws.specs.Bits.{Shows, NameFits, given, given_all, Shown, Roomy, Fresh, Visited}
+use Rattle.checklaws.specs.Bits.{Shows, NameFits, given, given_all, Shown, Visited}
 use Rattle.checklaws.proofs.Parents.{hits_at}
 use Rattle.checklaws.proofs.Hands.{handed-none, handed-step}
 use Rattle.checklaws.proofs.BitLaws.{shows-none}
@@ -104,65 +103,35 @@ all-at r x v t k l =
 
 -- ---- the start
 
-fresh : (img : List ℕ) (z : ℕ) → nodes_of img ≤ z → Fresh img (replicate z 0) (replicate z 0)
-fresh img z h =
-    let e : length (replicate {A = ℕ} z 0) ≡ z = length-replicate {A = ℕ} z 0 in
-    record { room = record { long-lo = omega arith; long-hi = refl }; zero-lo = zero; zero-hi = zero }
-  where
-    zero : (k : ℕ) → get_or (replicate {A = ℕ} z 0) k 0 ≡ 0
-    zero k =
-        elim (dec_lt k z) [
-          | yes l ↦ get_or-replicate {A = ℕ} z k 0 0 l
-          | no f ↦ get_or-eq_default (replicate {A = ℕ} z 0) 0 (omega (arith, length-replicate {A = ℕ} z 0))
-        ]
-
-pub fresh-short : (img : List ℕ) (z m : ℕ) → m ≡ nodes_of img → m ≤ z → Fresh img (replicate z 0) (replicate z 0)
-fresh-short img z m e l = fresh img z (omega arith)
-
-pub fresh-long : (img : List ℕ) → Formed img → Fresh img (replicate 2048 0) (replicate 2048 0)
-fresh-long img g = fresh img 2048 (let z = g.sized.few-nodes in omega arith)
+none-held : (z k : ℕ) → get_or (replicate {A = ℕ} z 0) k 0 ≡ 0
+none-held z k =
+    elim (dec_lt k z) [
+      | yes l ↦ get_or-replicate {A = ℕ} z k 0 0 l
+      | no f ↦ get_or-eq_default (replicate {A = ℕ} z 0) 0 (omega (arith, length-replicate {A = ℕ} z 0))
+    ]
 
 -- the names visible at the root are put at the last node
-module _ (img los his : List ℕ) (f : Fresh img los his) (n lo hi : ℕ) where
-  pub root-room : Roomy img (set los n lo) (set his n hi)
-  root-room =
-      let a = f.room.long-lo in
-      let b = f.room.long-hi in
-      record { long-lo = omega (arith, length-set los n lo); long-hi = omega (arith, length-set los n lo, length-set his n hi) }
+shown-root : (img : List ℕ) (z n w : ℕ) (visible : Names) → n < z → n + 1 ≡ nodes_of img → Shows w visible → Shown visible img (nodes_of img) (set (replicate z 0) n w)
+shown-root img z n w visible h e s = record { shows = λ k l. rw (handed-none visible img k) (go k (ℕ_discrete k n)) }
+  where
+    go : (k : ℕ) → Dec (k ≡ n) → Shows (get_or (set (replicate z 0) n w) k 0) (cond (eqb (k + 1) (nodes_of img)) visible [])
+    go k (yes d) =
+        rw (d, eq-eqb (n + 1) (nodes_of img) e, get_or-set_same (replicate z 0) n w 0 (omega (arith, length-replicate {A = ℕ} z 0))) s
+    go k (no g) =
+        rw (ne_eqb (k + 1) (nodes_of img) (λ d. g (omega arith)), get_or-set_other (replicate z 0) n k w 0 g, none-held z k) shows-none
 
-  shown-root : (visible : Names) → n + 1 ≡ nodes_of img → Shows lo hi visible → Shown visible img (nodes_of img) (set los n lo) (set his n hi)
-  shown-root visible e s = record { shows = λ k l. rw (handed-none visible img k) (go k (ℕ_discrete k n)) }
-    where
-      go : (k : ℕ) → Dec (k ≡ n) → Shows (get_or (set los n lo) k 0) (get_or (set his n hi) k 0) (cond (eqb (k + 1) (nodes_of img)) visible [])
-      go k (yes d) =
-          let a = f.room.long-lo in
-          let b = f.room.long-hi in
-          rw (d, eq-eqb (n + 1) (nodes_of img) e, get_or-set_same los n lo 0 (omega arith), get_or-set_same his n hi 0 (omega arith)) s
-      go k (no g) =
-          rw (ne_eqb (k + 1) (nodes_of img) (λ d. g (omega arith)), get_or-set_other los n k lo 0 g, get_or-set_other his n k hi 0 g, f.zero-lo k, f.zero-hi k)
-          shows-none
+pub from-root : (img held : List ℕ) (z m w : ℕ) (r : Verdict)
+    → ((visible : Names) → Shown visible img (nodes_of img) held → r ≡ names_say visible img (nodes_of img))
+    → held ≡ set (replicate z 0) (m - 1) w → m ≡ nodes_of img → nodes_of img ≤ z → Formed img
+    → (visible : Names) → Shows w visible → r ≡ names_say visible img (nodes_of img)
+from-root img held z m w r says d e l g visible s =
+    let y = g.sized.some-node in
+    says visible (rw d (shown-root img z (m - 1) w visible (omega arith) (omega arith) s))
 
-pub from-root : (img los his los' his' : List ℕ) (m lo hi : ℕ) (r : Verdict)
-    → ((visible : Names) → Shown visible img (nodes_of img) los' his' → r ≡ names_say visible img (nodes_of img))
-    → los' ≡ set los (m - 1) lo → his' ≡ set his (m - 1) hi → m ≡ nodes_of img → Formed img → Fresh img los his
-    → (visible : Names) → Shows lo hi visible → r ≡ names_say visible img (nodes_of img)
-from-root img los his los' his' m lo hi r says e d k g f visible s =
-    let z = g.sized.some-node in
-    says visible (rw (e, d) (shown-root img los his f (m - 1) lo hi visible (omega arith) s))
-
-pub ruleset rooting = (fresh-short, fresh-long, from-root)
-
-pub handed-down-at : (visible : Names) (img : List ℕ) (n m : ℕ) (los his : List ℕ) → n ≡ m → Shown visible img n los his → Shown visible img m los his
-handed-down-at visible img n m los his e h = rw (← e) h
+pub handed-down-at : (visible : Names) (img : List ℕ) (n m : ℕ) (held : List ℕ) → n ≡ m → Shown visible img n held → Shown visible img m held
+handed-down-at visible img n m held e h = rw (← e) h
 
 -- ---- a visit
-
-module _ (img los his : List ℕ) (n : ℕ) (room : Roomy img los his) (l : n < nodes_of img) where
-  pub room-lo : n < length los
-  room-lo = let a = room.long-lo in omega arith
-
-  pub room-hi : n < length his
-  room-hi = let a = room.long-lo in let b = room.long-hi in omega arith
 
 module _ (img : List ℕ) (n : ℕ) (l : n < nodes_of img) (x : Node) (is : x ≡ node_at img n) (r : Row) (e : row_of x.tag ≡ some r) where
   pub name-fits : Formed img → NameFits r.a x.a
@@ -188,9 +157,9 @@ module _ (visible : Names) (img : List ℕ) (n : ℕ) (l : n < nodes_of img) (x 
     unfolding stray_at stray_row
     stray-none = rw (← is, e)
 
-    pub visited-none : (los his : List ℕ) → Shown visible img (n + 1) los his → Shown visible img n los his
+    pub visited-none : (held : List ℕ) → Shown visible img (n + 1) held → Shown visible img n held
     unfolding hits
-    visited-none los his h =
+    visited-none held h =
         record { shows = λ k i. rw (step k, e) (h.shows k i) }
 
   module _ (r : Row) (e : row_of x.tag ≡ some r) where
@@ -206,9 +175,9 @@ module _ (visible : Names) (img : List ℕ) (n : ℕ) (l : n < nodes_of img) (x 
     unfolding stray_row
     stray-role others = rw e
 
-    module _ (los his los' his' : List ℕ) (bad : Bool) (h : Shown visible img (n + 1) los his) (room : Roomy img los his) (v : Visited r x n los his los' his' bad) where
-      m : n < length los
-      m = let a = room.long-lo in omega arith
+    module _ (held held' : List ℕ) (bad : Bool) (h : Shown visible img (n + 1) held) (room : nodes_of img ≤ length held) (v : Visited r x n held held' bad) where
+      m : n < length held
+      m = omega arith
 
       pub stray-row : bad ≡ stray_at visible img n
       unfolding stray_at
@@ -217,21 +186,19 @@ module _ (visible : Names) (img : List ℕ) (n : ℕ) (l : n < nodes_of img) (x 
           ∙ sym (stray-role (handed visible img (n + 1) n))
           ∙ rw (← is)
 
-      either : (b : Bool) (k : ℕ) → k < length los → Shows (cond b v.lo (get_or los k 0)) (cond b v.hi (get_or his k 0)) (cond b (grow_row (handed visible img (n + 1) n) (row_of x.tag) x) (handed visible img (n + 1) k))
+      either : (b : Bool) (k : ℕ) → k < length held → Shows (cond b v.names (get_or held k 0)) (cond b (grow_row (handed visible img (n + 1) n) (row_of x.tag) x) (handed visible img (n + 1) k))
       either true k i =
           rw (grow-role (handed visible img (n + 1) n)) (v.grows (handed visible img (n + 1) n) (h.shows n m))
       either false k i = h.shows k i
 
-      pub visited-row : Shown visible img n los' his'
+      pub visited-row : Shown visible img n held'
       visited-row =
-          let b = room.long-hi in
-          let lo : length los' ≡ length los = ap length v.gives-lo ∙ all-long r x v.lo los in
+          let long : length held' ≡ length held = ap length v.gives ∙ all-long r x v.names held in
           record {
             shows = λ k i.
-                let j : k < length los = omega arith in
-                rw
-                (v.gives-lo, v.gives-hi, all-at r x v.lo los k (omega arith), all-at r x v.hi his k (omega arith), step k, by-role k)
+                let j : k < length held = omega arith in
+                rw (v.gives, all-at r x v.names held k j, step k, by-role k)
                 (either (ltb 0 (hit r.a x.a k + hit r.b x.b k + hit r.c x.c k)) k j);
           }
 
-pub ruleset visiting = (room-lo, room-hi, name-fits, stray-none, visited-none, stray-row, visited-row)
+pub ruleset visiting = (name-fits, stray-none, visited-none, stray-row, visited-row)

@@ -13,7 +13,8 @@ use Rattle.rules.specs.State.{size}
 use Rattle.rules.specs.Refusals.{bad_contents, right_length}
 use Rattle.rules.proofs.GoodFacts.{Sized}
 use Rattle.rules.proofs.Good.{contents-right}
-use Rattle.checklaws.specs.Pieces.{head_reason}
+use Rattle.rules.specs.declared.Verdict.TheVariants.{Accepted, Refused}
+use Rattle.checklaws.specs.Pieces.{refusal, head_reason}
 
 -- ---- the contents: each test of them, the earlier ones having passed
 
@@ -65,50 +66,53 @@ pub ruleset contents = (bad-start, many-fields, bad-node-start, no-nodes, many-n
 -- ---- the four reasons
 
 module _ (words : ℕ) (img : List ℕ) where
-  pub no-space : words < size → 10 ≡ head_reason words img
-  unfolding head_reason
+  pub no-space : words < size → Refused 10 0 ≡ refusal (head_reason words img) 0
+  unfolding head_reason refusal
   no-space h = rw (lt-ltb words size h)
 
   module _ (a : size ≤ words) where
-    pub too-short : length img < 10 → 1 ≡ head_reason words img
-    unfolding head_reason
+    pub too-short : length img < 10 → Refused 1 0 ≡ refusal (head_reason words img) 0
+    unfolding head_reason refusal
     too-short h = rw (le-ltb words size a, lt-ltb (length img) 10 h)
 
     module _ (b : 10 ≤ length img) (t : Bool) (is : t ≡ bad_contents img) where
-      pub wrong-contents : t ≡ true → 2 ≡ head_reason words img
-      unfolding head_reason
+      pub wrong-contents : t ≡ true → Refused 2 0 ≡ refusal (head_reason words img) 0
+      unfolding head_reason refusal
       wrong-contents h = rw (le-ltb words size a, le-ltb (length img) 10 b, ← is, h)
 
       module _ (c : t ≡ false) (f m : ℕ) (is_f : f ≡ fields_of img) (is_m : m ≡ nodes_of img) where
-        pub wrong-length : (length img ≡ 10 + 2 * f + 8 * m → ⊥) → 3 ≡ head_reason words img
-        unfolding head_reason right_length
+        pub wrong-length : (length img ≡ 10 + 2 * f + 8 * m → ⊥) → Refused 3 0 ≡ refusal (head_reason words img) 0
+        unfolding head_reason right_length refusal
         wrong-length h =
             rw
             (le-ltb words size a, le-ltb (length img) 10 b, ← is, c, ne_eqb (length img) (10 + 2 * fields_of img + 8 * nodes_of img) (λ e. h (omega arith)))
 
-        pub right-head : length img ≡ 10 + 2 * f + 8 * m → 0 ≡ head_reason words img
-        unfolding head_reason right_length
+        pub right-head : length img ≡ 10 + 2 * f + 8 * m → Accepted ≡ refusal (head_reason words img) 0
+        unfolding head_reason right_length refusal
         right-head h =
             rw
             (le-ltb words size a, le-ltb (length img) 10 b, ← is, c, eq-eqb (length img) (10 + 2 * fields_of img + 8 * nodes_of img) (omega arith))
 
+        pub sized-here : length img ≡ 10 + 2 * f + 8 * m → Sized img
+        unfolding right_length
+        sized-here h = contents-right img (sym is ∙ c) b (omega arith)
+
   -- none of the four: the script is sized
-  pub sized : (k : ℕ) → k ≡ head_reason words img → k ≡ 0 → Sized img
-  unfolding head_reason
-  sized k e z = go (ltb words size) (ltb (length img) 10) (bad_contents img) (not (eqb (length img) (right_length img))) refl refl refl refl (sym e ∙ z)
+  pub sized : Accepted ≡ refusal (head_reason words img) 0 → Sized img
+  unfolding head_reason refusal
+  sized e = go (ltb words size) (ltb (length img) 10) (bad_contents img) (not (eqb (length img) (right_length img))) refl refl refl e
     where
       go : (a b c d : Bool)
-          → ltb words size ≡ a
           → ltb (length img) 10 ≡ b
           → bad_contents img ≡ c
           → not (eqb (length img) (right_length img)) ≡ d
-          → ◌≡◌ {A = ℕ} (cond a 10 (cond b 1 (cond c 2 (cond d 3 0)))) 0
+          → Accepted ≡ refusal (cond a 10 (cond b 1 (cond c 2 (cond d 3 0)))) 0
           → Sized img
-      go true b c d p q r t e = absurd (omega arith)
-      go false true c d p q r t e = absurd (omega arith)
-      go false false true d p q r t e = absurd (omega arith)
-      go false false false true p q r t e = absurd (omega arith)
-      go false false false false p q r t e =
+      go true b c d q r t e = cc e
+      go false true c d q r t e = cc e
+      go false false true d q r t e = cc e
+      go false false false true q r t e = cc e
+      go false false false false q r t e =
           contents-right img r (ltb-false (length img) 10 q) (eqb-true (length img) (right_length img) (not-false _ t))
 
-pub ruleset heads = (no-space, too-short, wrong-contents, wrong-length, right-head, sized)
+pub ruleset heads = (no-space, too-short, wrong-contents, wrong-length, right-head, sized-here)

@@ -8,18 +8,9 @@ use mathlib.Core.Logic.{⊎_elim}
 use native.Mathlib.Omega.{arith}
 use native.Mathlib.Nat.{eq-or-lt_of_le}
 use native.Mathlib.Numerals.{add-one}
-use borrow.Author.Tests.{ne_eqb}
 use Rattle.rules.specs.declared.Verdict.TheVariants.{Accepted, Refused}
 use Rattle.rules.specs.Refusals.{Reason, or_else, lowest}
-use Rattle.checklaws.specs.Pieces.{refusal, place_says, rules_say}
-
-pub refusal-none : (p : ℕ) → refusal 0 p ≡ Accepted
-unfolding refusal
-refusal-none p = refl
-
-pub refusal-some : (k p : ℕ) → (k ≡ 0 → ⊥) → refusal k p ≡ Refused k p
-unfolding refusal
-refusal-some k p h = rw (ne_eqb k 0 h)
+use Rattle.checklaws.specs.Pieces.{place_says, rules_say}
 
 module _ (img : List ℕ) (rs : List Reason) where
   pub none_yet : rules_say img rs 0 ≡ Accepted
@@ -30,8 +21,8 @@ module _ (img : List ℕ) (rs : List Reason) where
   unfolding rules_say place_says lowest or_else
   turn i e = rw e
 
-  pub goes_on : (i k : ℕ) → rules_say img rs i ≡ Accepted → refusal k i ≡ place_says img rs i → k ≡ 0 → rules_say img rs (i + 1) ≡ Accepted
-  goes_on i k e h z = rw (add-one i) (turn i e ∙ sym h ∙ rw z (refusal-none i))
+  pub goes_on : (i : ℕ) → rules_say img rs i ≡ Accepted → Accepted ≡ place_says img rs i → rules_say img rs (i + 1) ≡ Accepted
+  goes_on i e h = rw (add-one i) (turn i e ∙ sym h)
 
   stays : (i n k p : ℕ) → rules_say img rs i ≡ Refused k p → i ≤ n → rules_say img rs n ≡ Refused k p
   unfolding rules_say lowest or_else
@@ -42,9 +33,8 @@ module _ (img : List ℕ) (rs : List Reason) where
       (λ (l : i < suc n). rw (stays i n k p e (omega arith)))
       (eq-or-lt_of_le {n = i} {m = suc n} h)
 
-  pub found : (i k n m : ℕ) → m ≡ n → rules_say img rs i ≡ Accepted → refusal k i ≡ place_says img rs i → (k ≡ 0 → ⊥) → i < m → Refused k i ≡ rules_say img rs n
-  found i k n m d e h z l =
-      sym (stays (suc i) n k i (turn i e ∙ sym h ∙ refusal-some k i z) (omega arith))
+  pub found : (i k p n m : ℕ) → m ≡ n → rules_say img rs i ≡ Accepted → Refused k p ≡ place_says img rs i → i < m → Refused k p ≡ rules_say img rs n
+  found i k p n m d e h l = sym (stays (suc i) n k p (turn i e ∙ sym h) (omega arith))
 
   pub ended : (i n m : ℕ) → m ≡ n → rules_say img rs i ≡ Accepted → i ≤ m → m ≤ i → Accepted ≡ rules_say img rs n
   ended i n m f e l h = let d : i ≡ n = omega arith in sym (rw d at e)

@@ -14,7 +14,6 @@ use Rattle.rules.proofs.Reasons.{check-in-order}
 use Rattle.rules.specs.State.{size}
 use Rattle.rules.specs.Scope.{Names}
 use Rattle.rules.specs.Refusals.{bad_contents, right_length, or_else, at_place, lowest, check, rule_of, rule}
-use Rattle.checklaws.proofs.Places.{refusal-none, refusal-some}
 use Rattle.checklaws.specs.Rest.{uses_say, nodes_say, bodies_say}
 use Rattle.checklaws.specs.Pieces.{refusal, head_reason, code_rules, node_rules, use_rules, name_rules, rules_say, names_say}
 
@@ -61,27 +60,30 @@ check-is visible w img =
     go false false false true v = refl
     go false false false false v = refl
 
--- ---- the code's answers
+-- ---- the code's answers: each group is looked at when no earlier one refuses
 
-pub check-head : (visible : Names) (w : ℕ) (img : List ℕ) (k : ℕ) → k ≡ head_reason w img → (k ≡ 0 → ⊥) → Refused k 0 ≡ check visible w img
-unfolding or_else
-check-head visible w img k e h =
-    sym (check-is visible w img ∙ rw (← e, refusal-some k 0 h))
+module _ (visible : Names) (w : ℕ) (img : List ℕ) where
+  pub at-head : (k p : ℕ) → Refused k p ≡ refusal (head_reason w img) 0 → Refused k p ≡ check visible w img
+  unfolding or_else
+  at-head k p h = sym (check-is visible w img ∙ rw (← h))
 
-pub check-rest : (visible : Names) (w : ℕ) (img : List ℕ) (k : ℕ) (v : Verdict) → k ≡ head_reason w img → k ≡ 0 → v ≡ bodies_say visible img → v ≡ check visible w img
-unfolding or_else
-check-rest visible w img k v e z f = f ∙ sym (check-is visible w img ∙ rw (← e, z, refusal-none 0))
+  module _ (h : Accepted ≡ refusal (head_reason w img) 0) where
+    pub at-codes : (k p : ℕ) → Refused k p ≡ rules_say img code_rules (fields_of img) → Refused k p ≡ check visible w img
+    unfolding or_else bodies_say
+    at-codes k p c = sym (check-is visible w img ∙ rw (← h, ← c))
 
--- the first verdict that refuses
-pub passes : (u v : Verdict) → u ≡ v → u ≡ Accepted → v ≡ Accepted
-passes u v e a = sym e ∙ a
+    module _ (c : Accepted ≡ rules_say img code_rules (fields_of img)) where
+      pub at-nodes : (k p : ℕ) → Refused k p ≡ rules_say img node_rules (nodes_of img) → Refused k p ≡ check visible w img
+      unfolding or_else bodies_say nodes_say
+      at-nodes k p n = sym (check-is visible w img ∙ rw (← h, ← c, ← n))
 
-pub goes_on : (u v w r : Verdict) → u ≡ v → u ≡ Accepted → r ≡ w → r ≡ or_else v w
-unfolding or_else
-goes_on u v w r e a h = rw (← e, a) h
+      module _ (n : Accepted ≡ rules_say img node_rules (nodes_of img)) where
+        pub at-uses : (k p : ℕ) → Refused k p ≡ rules_say img use_rules (nodes_of img) → Refused k p ≡ check visible w img
+        unfolding or_else bodies_say nodes_say uses_say
+        at-uses k p u = sym (check-is visible w img ∙ rw (← h, ← c, ← n, ← u))
 
-pub stops : (u v w : Verdict) (k p : ℕ) → u ≡ v → u ≡ Refused k p → Refused k p ≡ or_else v w
-unfolding or_else
-stops u v w k p e a = rw (← e, a)
+        pub at-names : Accepted ≡ rules_say img use_rules (nodes_of img) → (v : Verdict) → v ≡ names_say visible img (nodes_of img) → v ≡ check visible w img
+        unfolding or_else bodies_say nodes_say uses_say
+        at-names u v e = sym (check-is visible w img ∙ rw (← h, ← c, ← n, ← u, ← e))
 
-pub ruleset wholes = (check-head, check-rest, passes, goes_on, stops)
+pub ruleset wholes = (at-head, at-codes, at-nodes, at-uses, at-names)

@@ -5,8 +5,6 @@ use Rattle.std.specs.Prelude.{ℕ, Bool, cond, not, ◌&&◌, List, [], ◌∷�
 use Rattle.rules.specs.declared.Node.{Node}
 use Rattle.rules.specs.declared.Verdict.{Verdict}
 use Rattle.rules.specs.declared.Verdict.TheVariants.{Accepted, Refused}
-use Rattle.rules.specs.declared.Kind.{Kind}
-use Rattle.rules.specs.declared.Kind.TheVariants.{Exp as an_exp, Test as a_test, Cmd as a_cmd}
 use Rattle.rules.specs.declared.Role.{Role}
 use Rattle.rules.specs.declared.Row.{Row}
 use Rattle.rules.specs.Image.{fields_of, names_of}
@@ -59,12 +57,6 @@ words_reason img n r x =
     cond (blank r.a x.a && blank r.b x.b && blank r.c x.c)
     (cond (suits img n r.a x.a && suits img n r.b x.b && suits img n r.c x.c) 0 7)
     6
-
--- kinds by numbers, to tell them apart
-abbrev pub kind_index : Kind → ℕ
-kind_index an_exp = 1
-kind_index a_test = 2
-kind_index a_cmd = 3
 
 -- a field index, a name in range
 abbrev pub index_right : List ℕ → ℕ → Bool

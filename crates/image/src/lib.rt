@@ -6,6 +6,8 @@
 
 #![tactic(auto)]
 
+mod refusals;
+
 ghost use Rattle.std.specs.Prelude.{◌≡◌, ◌+◌, ◌*◌, ◌<◌, ◌≤◌, length};
 ghost use Rattle.std.proofs.Math.Option.{some};
 ghost use Rattle.laws.specs.Options.{math_option};
@@ -13,6 +15,7 @@ ghost use Rattle.rules.specs.Image.{word_at, fields_of, nodes_of, names_of, code
 ghost use Rattle.rules.proofs.GoodFacts.{Sized, Good};
 ghost use Rattle.image.specs.Read.{NodeRead};
 
+pub use refusals::Refusal;
 use rules::Kind::{Cmd, Exp, Test};
 use rules::Role::{Binds, Child, Half, Index, Unused, Uses};
 use rules::{Kind, Node, Role, Row};
@@ -63,21 +66,21 @@ impl<'a> Image<'a> {
 
     /// F, the number of fields.
     pub fn fields(&self) -> usize
-        ensures { (result ≡ fields_of self.now) × (result < 65536) }
+        ensures { (result ≡ fields_of self.now) × (result ≤ 16) }
     {
         fields(self.bytes)
     }
 
     /// M, the number of nodes.
     pub fn nodes(&self) -> usize
-        ensures { (result ≡ nodes_of self.now) × (result < 65536) }
+        ensures { (result ≡ nodes_of self.now) × ((1 ≤ result) × (result ≤ 2048)) }
     {
         nodes(self.bytes)
     }
 
     /// N, the number of names.
     pub fn names(&self) -> usize
-        ensures { (result ≡ names_of self.now) × (result < 65536) }
+        ensures { (result ≡ names_of self.now) × (result ≤ 128) }
     {
         names(self.bytes)
     }

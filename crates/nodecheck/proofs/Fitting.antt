@@ -13,23 +13,20 @@ use Rattle.rules.specs.declared.Kind.TheVariants.{Exp as an_exp, Test as a_test,
 use Rattle.rules.specs.declared.Role.{Role}
 use Rattle.rules.specs.declared.Role.TheVariants.{Unused, Index, Half, Uses, Binds, Child}
 use Rattle.rules.specs.declared.Row.{Row}
+use Rattle.rules.specs.declared.Verdict.TheVariants.{Accepted, Refused}
 use Rattle.rules.specs.Image.{kind_of, node_at, row, row_of, tags}
 use Rattle.image.proofs.Rows.{Absent, absent}
 use Rattle.rules.specs.Refusals.{blank, suits, is_kind, same_kind}
-use Rattle.checklaws.specs.Pieces.{refusal, node_rules, place_says, fits_word, words_reason, index_right, name_right}
+use Rattle.checklaws.specs.Pieces.{refusal, node_rules, place_says, fits_word, index_right, name_right}
 use Rattle.checklaws.proofs.Three.{all_fit, not_right, not-blank}
 use Rattle.checklaws.proofs.Words.{fits-unused, node-none, node-some}
-use Rattle.nodecheck.specs.Rows.{row_fits, misfit}
+use Rattle.nodecheck.specs.Rows.{row_fits}
 
 -- ---- words
 
 module _ (img : List ℕ) (n w : ℕ) where
   pub unused-fits : eqb w 0 ≡ fits_word img n Unused w
   unused-fits = fits-unused img n w Unused refl
-
-  pub half-fits : true ≡ fits_word img n Half w
-  unfolding fits_word blank suits
-  half-fits = refl
 
   module _ (b : Bool) where
     pub index-fits : b ≡ index_right img w → b ≡ fits_word img n Index w
@@ -48,14 +45,17 @@ module _ (img : List ℕ) (n w : ℕ) where
     unfolding fits_word blank
     child_fits k e = e
 
--- ---- rows
+-- ---- rows: three words that fit the roles of the tag's row
 
-module _ (img : List ℕ) (n : ℕ) (p q s : Role) (x : Node) (a b c y : Bool) where
-  pub row_fits_lem : y ≡ (a && b && c) → a ≡ fits_word img n p x.a → b ≡ fits_word img n q x.b → c ≡ fits_word img n s x.c → y ≡ row_fits img n (some (row p q s)) x
+module _ (img : List ℕ) (n : ℕ) (x : Node) where
+  pub arm : {p q s : Role} (a b c : Bool) → some (row p q s) ≡ row_of x.tag → a ≡ fits_word img n p x.a → b ≡ fits_word img n q x.b → c ≡ fits_word img n s x.c
+      → (a && b && c) ≡ row_fits img n (row_of x.tag) x
   unfolding row_fits
-  row_fits_lem e f g h = rw (← f, ← g, ← h) e
+  arm a b c e f g h = rw (← e, f, g, h)
 
-pub ruleset fitting = (unused-fits, half-fits, index-fits, uses-fits, binds-fits, child_fits, row_fits_lem)
+  pub arm-of-two-halves : (c : Bool) → some (row Half Half Unused) ≡ row_of x.tag → c ≡ fits_word img n Unused x.c → c ≡ row_fits img n (row_of x.tag) x
+  unfolding row_fits fits_word blank suits
+  arm-of-two-halves c e h = rw (← e) h
 
 pub no_row : (img : List ℕ) (n : ℕ) (x : Node) → Absent x.tag tags → false ≡ row_fits img n (row_of x.tag) x
 unfolding row_fits
@@ -123,36 +123,29 @@ pub ruleset kinds = (exp-tag, test-tag, cmd-tag)
 
 -- ---- the node's rules
 
-module _ (r : Row) (x : Node) (b : Bool) (e : b ≡ (blank r.a x.a && blank r.b x.b && blank r.c x.c)) where
-  pub is_right : b ≡ true → 7 ≡ misfit r x
-  unfolding misfit
-  is_right h = rw (← e, h)
-
-  pub is-stained : b ≡ false → 6 ≡ misfit r x
-  unfolding misfit
-  is-stained h = rw (← e, h)
-
-pub ruleset which = (is_right, is-stained)
-
 module _ (img : List ℕ) (n : ℕ) (x : Node) (is : x ≡ node_at img n) (f : Bool) (e : f ≡ row_fits img n (row_of x.tag) x) where
-  fits-some : (o : Option Row) → row_of x.tag ≡ o → true ≡ row_fits img n o x → refusal 0 n ≡ place_says img node_rules n
-  unfolding row_fits
+  fits-some : (o : Option Row) → row_of x.tag ≡ o → true ≡ row_fits img n o x → Accepted ≡ place_says img node_rules n
+  unfolding row_fits refusal
   fits-some none d h = cc h
   fits-some (some r) d h = node-some img n x is r 0 d (all_fit img n r x true h refl)
 
-  pub node-fits : f ≡ true → refusal 0 n ≡ place_says img node_rules n
+  pub node-fits : f ≡ true → Accepted ≡ place_says img node_rules n
   node-fits h = fits-some (row_of x.tag) refl (sym h ∙ e)
 
-  pub node-untagged : row_of x.tag ≡ none → refusal 5 n ≡ place_says img node_rules n
+  pub node-untagged : row_of x.tag ≡ none → Refused 5 n ≡ place_says img node_rules n
   node-untagged d = node-none img n x is d
 
-  pub node-misfits : f ≡ false → (r : Row) (k : ℕ) → row_of x.tag ≡ some r → k ≡ misfit r x → refusal k n ≡ place_says img node_rules n
-  unfolding row_fits misfit
-  node-misfits h r k d g =
-      node-some img n x is r k d (g ∙ go (blank r.a x.a && blank r.b x.b && blank r.c x.c) refl)
-    where
-      go : (b : Bool) → b ≡ (blank r.a x.a && blank r.b x.b && blank r.c x.c) → cond b 7 6 ≡ words_reason img n r x
-      go true i = not_right img n r x f (e ∙ ap (λ (o : Option Row). row_fits img n o x) d) h true i refl
-      go false i = not-blank img n r x f (e ∙ ap (λ (o : Option Row). row_fits img n o x) d) h false i refl
+  module _ (h : f ≡ false) (r : Row) (d : row_of x.tag ≡ some r) (b : Bool) (g : b ≡ (blank r.a x.a && blank r.b x.b && blank r.c x.c)) where
+    misfits : f ≡ (fits_word img n r.a x.a && fits_word img n r.b x.b && fits_word img n r.c x.c)
+    unfolding row_fits
+    misfits = e ∙ ap (λ (o : Option Row). row_fits img n o x) d
 
-pub ruleset reasons = (node-fits, node-untagged, node-misfits)
+    pub node-unfit : b ≡ true → Refused 7 n ≡ place_says img node_rules n
+    unfolding refusal
+    node-unfit i = node-some img n x is r 7 d (not_right img n r x f misfits h b g i)
+
+    pub node-stained : b ≡ false → Refused 6 n ≡ place_says img node_rules n
+    unfolding refusal
+    node-stained i = node-some img n x is r 6 d (not-blank img n r x f misfits h b g i)
+
+pub ruleset reasons = (node-fits, node-untagged, node-unfit, node-stained)

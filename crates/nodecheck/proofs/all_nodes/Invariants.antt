@@ -1,14 +1,12 @@
-use Rattle.checklaws.specs.Pieces.{rules_say}
-use Rattle.checklaws.specs.Pieces.{node_rules}
+use Rattle.std.proofs.Common.{◌≡◌}
 use Rattle.rules.specs.declared.Verdict.TheVariants.{Accepted}
 use Rattle.rules.specs.Image.{nodes_of}
-use mathlib.Core.Path.{◌≡◌}
-use Prim.Native.Nat.{◌-◌}
-use Prim.Native.Nat.{◌≤◌}
+use Rattle.checklaws.specs.Pieces.{node_rules, rules_say}
 use Rattle.nodecheck.proofs.all_nodes.Given as goal
 
+-- no node below n is wrong
 abbrev pub invariant-loop-n : goal.invariant-loop-n
-invariant-loop-n l = ((l.m ≡ nodes_of l.img) × (l.n ≤ l.m)) × (rules_say l.img node_rules l.n ≡ Accepted)
-
-abbrev pub decreases-loop-n : goal.decreases-loop-n
-decreases-loop-n l = l.m - l.n
+invariant-loop-n l = record {
+  last : l.n-end ≡ nodes_of l.image;
+  none : rules_say l.image node_rules l.n ≡ Accepted;
+}

@@ -1,13 +1,8 @@
-use Rattle.checklaws.specs.Counts.{Counts}
+use Rattle.std.proofs.Common.{◌≡◌}
 use Rattle.rules.specs.Image.{nodes_of}
-use Prim.Native.Nat.{◌-◌}
-use Prim.Native.Nat.{◌≤◌}
-use mathlib.Core.Path.{◌≡◌}
-use lib.ListN.{length}
+use Rattle.checklaws.specs.Counts.{Counts}
 use Rattle.usecheck.proofs.count.Given as goal
 
+-- the uses by the nodes below n are counted
 abbrev pub invariant-loop-n : goal.invariant-loop-n
-invariant-loop-n l = ((l.m ≡ nodes_of l.img) × (l.n ≤ l.m)) × Counts l.img l.n l.t × (length l.t ≡ length l.initial.t)
-
-abbrev pub decreases-loop-n : goal.decreases-loop-n
-decreases-loop-n l = l.m - l.n
+invariant-loop-n l = record { last : l.n-end ≡ nodes_of l.image; counts : Counts l.image l.n l.uses }

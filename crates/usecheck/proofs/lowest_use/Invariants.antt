@@ -1,14 +1,10 @@
-use Rattle.checklaws.specs.Pieces.{rules_say}
-use Rattle.checklaws.specs.Pieces.{use_rules}
+use Rattle.std.proofs.Common.{◌≡◌}
 use Rattle.rules.specs.declared.Verdict.TheVariants.{Accepted}
 use Rattle.rules.specs.Image.{nodes_of}
-use mathlib.Core.Path.{◌≡◌}
-use Prim.Native.Nat.{◌-◌}
-use Prim.Native.Nat.{◌≤◌}
+use Rattle.checklaws.specs.Pieces.{use_rules, rules_say}
 use Rattle.usecheck.proofs.lowest_use.Given as goal
 
+-- no node below n is used wrongly
 abbrev pub invariant-loop-n : goal.invariant-loop-n
-invariant-loop-n l = ((l.m ≡ nodes_of l.img) × (l.n ≤ l.m)) × (rules_say l.img use_rules l.n ≡ Accepted)
-
-abbrev pub decreases-loop-n : goal.decreases-loop-n
-decreases-loop-n l = l.m - l.n
+invariant-loop-n l =
+    record { last : l.n-end ≡ nodes_of l.image; none : rules_say l.image use_rules l.n ≡ Accepted }

@@ -1,11 +1,8 @@
--- `usecheck::tick_words` meets its contract.
-use Rattle.checklaws.proofs.Counting.{room-third, ticking}
+use Rattle.checklaws.proofs.Counting.{room-second, room-third}
 use Rattle.usecheck.proofs.tick_words.Goals as goal
 
 pub tick-requires-2 : goal.tick-requires-2
-tick-requires-2 c = search ticking
+tick-requires-2 c = room-second _ _ _ _ c.tick.ensures c.requires
 
 pub tick-requires-3 : goal.tick-requires-3
-tick-requires-3 c = let second = c in
-    let first = second in
-    room-third second.tick-2.ensures first.tick.ensures first.requires
+tick-requires-3 c = room-third c.tick-2.ensures c.tick.ensures c.requires

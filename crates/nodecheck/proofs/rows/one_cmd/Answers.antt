@@ -1,7 +1,0 @@
--- `nodecheck::rows::one_cmd` meets its contract.
-use Rattle.nodecheck.proofs.Fitting.{fitting}
-use borrow.Author.Rules.{rules}
-use Rattle.nodecheck.proofs.rows.one_cmd.Goals as goal
-
-pub returns : goal.returns
-returns c = search (rules, fitting)

@@ -1,7 +1,0 @@
--- `nodecheck::rows::two_exps` meets its contract.
-use Rattle.nodecheck.proofs.Fitting.{fitting}
-use borrow.Author.Rules.{rules}
-use Rattle.nodecheck.proofs.rows.two_exps.Goals as goal
-
-pub returns : goal.returns
-returns c = search (rules, fitting)
