@@ -120,6 +120,40 @@ impl<'a> Script<'a> {
             image: Image::new(bytes),
         }
     }
+
+    /// F, the number of fields.
+    pub fn fields(&self) -> usize
+        ensures fields { (result ≡ fields_of self.now) × (result ≤ 16) }
+        ensures good { Good self.now }
+    {
+        self.image.fields()
+    }
+
+    /// M, the number of nodes.
+    pub fn nodes(&self) -> usize
+        ensures nodes { (result ≡ nodes_of self.now) × ((1 ≤ result) × (result ≤ 2048)) }
+        ensures good { Good self.now }
+    {
+        self.image.nodes()
+    }
+
+    /// The four words of node `n`.
+    pub fn read(&self, n: usize) -> Node
+        requires { n < nodes_of self.now }
+        ensures read { NodeRead self.now n result }
+        ensures good { Good self.now }
+    {
+        self.image.read(n)
+    }
+
+    /// The tag of node `n` alone.
+    pub fn tag_of(&self, n: usize) -> usize
+        requires { n < nodes_of self.now }
+        ensures tag { result ≡ (node_at self.now n).tag }
+        ensures good { Good self.now }
+    {
+        self.image.tag_of(n)
+    }
 }
 
 /// A byte as a number.
