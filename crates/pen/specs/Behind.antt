@@ -1,6 +1,6 @@
 -- The bytes of tokens behind a token: what `Spell` says, seen from the token before, as a pen that goes from left to right needs it. The kind before is
 -- all that a gap asks for; kind 0 is nothing, no token stands before. Assumes nothing.
-use Rattle.std.specs.Prelude.{ℕ, zero, suc, cond, List, [], ◌∷◌, ◌++◌}
+use Rattle.std.specs.Prelude.{ℕ, zero, suc, cond, List, [], ◌∷◌, ◌++◌, Option, Some, None}
 use Rattle.grammar.specs.Tokens.{Tok, mark, kind_of}
 use Rattle.writing.specs.Spell.{bytes_for, tight}
 
@@ -18,7 +18,7 @@ unfoldable pub last_kind : ℕ → List Tok → ℕ
 last_kind j [] = j
 last_kind j (t ∷ ts) = last_kind (kind_of t) ts
 
--- a reserved word or a symbol by its kind; 0 is none
-unfoldable pub mark_of : ℕ → List Tok
-mark_of zero = []
-mark_of (suc k) = mark (suc k) ∷ []
+-- a reserved word or a symbol by its kind, where there is one
+unfoldable pub mark_of : Option ℕ → List Tok
+mark_of None = []
+mark_of (Some k) = mark k ∷ []

@@ -45,7 +45,7 @@ pub record Writes (names fields : List (List ℕ)) (ts : List Tok) (p r : Pen) :
   pub keeps : Keeps p r
 
 -- a mark, or nothing
-pub record Marks (k : ℕ) (p r : Pen) : Type 0 where
+pub record Marks (k : Option ℕ) (p r : Pen) : Type 0 where
   pub says : (names fields : List (List ℕ)) → Writes names fields (mark_of k) p r
 
 -- the place behind a token of kind k

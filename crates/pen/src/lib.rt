@@ -144,12 +144,12 @@ impl<'a> Pen<'a> {
         self.turn(kind);
     }
 
-    /// A reserved word or a symbol by its kind; nothing for 0.
+    /// A reserved word or a symbol by its kind, where there is one.
     #[tactic(auto, using(crate::proofs::Cited::put_mark_lemmas))]
-    pub fn put_mark(&mut self, kind: u32)
+    pub fn put_mark(&mut self, kind: Option<u32>)
         ensures { Marks kind self.old self.new }
     {
-        if kind != kinds::NONE {
+        if let Some(kind) = kind {
             self.put_token(kind, spelling(kind));
         }
     }

@@ -4,6 +4,7 @@ use mathlib.Core.Path.{◌≡◌, refl, sym, ap, ◌∙◌}
 use mathlib.Core.Bool.{Bool, false}
 use mathlib.Core.Option.{Option, none, some}
 use mathlib.Core.List.{List, [], ◌∷◌, ◌++◌, append_assoc, append-nil}
+use Rattle.std.specs.Prelude.{None}
 use Rattle.rules.specs.declared.Node.{Node}
 use Rattle.rules.specs.declared.Row.{Row}
 use Rattle.rules.specs.declared.Kind.TheVariants.{Exp as an_exp, Test as a_test, Cmd as a_cmd}
@@ -52,13 +53,13 @@ module _ (at : ℕ → Tree) (k : Form) (x : Node) (f g : Bool) where
   unfolding form_tokens
   row-full = simp append_assoc
 
-  row-three : k.last ≡ 0 → form_tokens at k x f g
+  row-three : k.last ≡ None → form_tokens at k x f g
       ≡ mark_of k.first ++ (mark_of k.second ++ (word_tokens at k.a x.a f ++ (mark_of k.third ++ (word_tokens at k.b x.b g ++ (mark_of k.fourth
       ++ word_tokens at k.c x.c false)))))
   unfolding mark_of
   row-three e = row-full ∙ rw (e, append-nil (word_tokens at k.c x.c false))
 
-  row-two : k.fourth ≡ 0 → k.c ≡ Nothing → k.last ≡ 0 → form_tokens at k x f g
+  row-two : k.fourth ≡ None → k.c ≡ Nothing → k.last ≡ None → form_tokens at k x f g
       ≡ mark_of k.first ++ (mark_of k.second ++ (word_tokens at k.a x.a f ++ (mark_of k.third ++ word_tokens at k.b x.b g)))
   unfolding mark_of word_tokens
   row-two i j e = row-three e ∙ rw (i, j, append-nil (word_tokens at k.b x.b g))

@@ -6,6 +6,7 @@ use native.Mathlib.Omega.{arith}
 use lib.ListN.{length, get_or, take, drop}
 use Rattle.std.proofs.lemmas.List.{drop-take}
 use borrow.Author.Tests.{lt-ltb, le-ltb}
+use Rattle.std.specs.Prelude.{Some}
 use Rattle.laws.specs.UpTo.{up_to}
 use Rattle.grammar.specs.Tokens.{field_name, number, kind_of as kind_of_tok}
 use Rattle.writing.specs.WriteTokens.{write_int}
@@ -33,7 +34,7 @@ module _ (b : ℕ) (p : Pen) where
   unfolding write_int kind_of_tok bytes_for
   int_plain r l t = record { says = λ names fields. rw (lt-ltb b 2147483648 l) (token-writes names fields (number b) t refl refl) }
 
-  pub int_signed : (q r : Pen) → 2147483648 ≤ b → Marks 4 p q → Token 3 (decimal_of (4294967296 - b)) q r → WritesInt b p r
+  pub int_signed : (q r : Pen) → 2147483648 ≤ b → Marks (Some 4) p q → Token 3 (decimal_of (4294967296 - b)) q r → WritesInt b p r
   unfolding write_int kind_of_tok bytes_for mark_of
   int_signed q r l m t =
       record {

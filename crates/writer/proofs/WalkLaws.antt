@@ -7,6 +7,7 @@ use native.Mathlib.Omega.{arith}
 use lib.ListN.{length, get_or}
 use types.Run.{OneOf}
 use denote.Enum.Declared.{tag_of}
+use Rattle.std.specs.Prelude.{Some}
 use Rattle.rules.specs.declared.Node.{Node}
 use Rattle.rules.specs.Image.{halves, exp_of, nodes_of, names_of, fields_of, node_at, tree_at}
 use Rattle.rules.proofs.GoodFacts.{Good}
@@ -95,7 +96,7 @@ module _ (img : List ℕ) (words : List (List ℕ)) where
       asked_is : a ≡ asked how (exp_of w (tree_at (node_at img) w)) f
       asked_is = i ∙ (rw v (asks-any img ends how w f u c))
 
-      pub child_grouped : (q r s : Pen) → a ≡ true → Marks 17 p q → WritesNode img words w g q r → Marks 18 r s
+      pub child_grouped : (q r s : Pen) → a ≡ true → Marks (Some 17) p q → WritesNode img words w g q r → Marks (Some 18) r s
           → WritesChild img words how w f p s
       unfolding child grouped mark_of
       child_grouped q r s t m n z =

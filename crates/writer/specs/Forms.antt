@@ -1,6 +1,6 @@
 -- How a node is written, by its tag: the clauses of `write_exp`, `write_test` and `write_behind` as a table. That the table writes what they do is shown in
 -- proofs/FormLaws. Assumes nothing.
-use Rattle.std.specs.Prelude.{ℕ, Bool, true, false, cond, ◌||◌, List, [], ◌∷◌, ◌++◌, eqb}
+use Rattle.std.specs.Prelude.{ℕ, zero, suc, Option, Some, None, Bool, true, false, cond, ◌||◌, List, [], ◌∷◌, ◌++◌, eqb}
 use Rattle.rules.specs.Syntax.{Exp}
 use Rattle.rules.specs.Image.{Tree, is_none, is_exp, is_test, is_cmd, exp_in}
 use Rattle.rules.specs.declared.Node.{Node}
@@ -14,8 +14,13 @@ use Rattle.writer.specs.declared.forms.Form.{Form}
 
 -- ---- the table
 
+-- a mark's kind, as the lines below write it: 0 is none
+abbrev pub a_mark : ℕ → Option ℕ
+a_mark zero = None
+a_mark (suc k) = Some (suc k)
+
 abbrev pub shaped : ℕ → ℕ → How → ℕ → How → ℕ → How → ℕ → Form
-shaped f g a h b i c l = record { first = f; second = g; a = a; third = h; b = b; fourth = i; c = c; last = l }
+shaped f g a h b i c l = record { first = a_mark f; second = a_mark g; a = a; third = a_mark h; b = b; fourth = a_mark i; c = c; last = a_mark l }
 
 pub data FormLine : Type 0 where
   line : ℕ → Form → FormLine

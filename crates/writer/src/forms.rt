@@ -4,8 +4,8 @@ ghost use Rattle.writer.specs.Forms.{form_of, passed};
 
 use pen::kinds::{
     ATOM, BARS, CLOSING_BRACE, CLOSING_PARENTHESIS, COLON, DOT, ELSE, EQUALS, EQUALS_SIGN, FALSE,
-    IF, LESS, MALLOC, MINUS, NONE, NULL, OPENING_BRACE, OPENING_PARENTHESIS, PROC, SEMICOLON, SKIP,
-    TRUE, VAR, WHILE,
+    IF, LESS, MALLOC, MINUS, NULL, OPENING_BRACE, OPENING_PARENTHESIS, PROC, SEMICOLON, SKIP, TRUE,
+    VAR, WHILE,
 };
 
 /// How a word of a node is written.
@@ -45,28 +45,28 @@ impl How {
     }
 }
 
-/// Two marks, word a, a mark, word b, a mark, word c, a mark; a mark may be none.
+/// Two marks, word a, a mark, word b, a mark, word c, a mark. A mark or a word may be none.
 #[derive(Clone, Copy)]
 pub struct Form {
-    pub first: u32,
-    pub second: u32,
+    pub first: Option<u32>,
+    pub second: Option<u32>,
     pub a: How,
-    pub third: u32,
+    pub third: Option<u32>,
     pub b: How,
-    pub fourth: u32,
+    pub fourth: Option<u32>,
     pub c: How,
-    pub last: u32,
+    pub last: Option<u32>,
 }
 
 const EMPTY: Form = Form {
-    first: NONE,
-    second: NONE,
+    first: None,
+    second: None,
     a: How::Nothing,
-    third: NONE,
+    third: None,
     b: How::Nothing,
-    fourth: NONE,
+    fourth: None,
     c: How::Nothing,
-    last: NONE,
+    last: None,
 };
 
 /// The form of a node of this tag. An integer has none: it is one token or two, by its value.
@@ -83,13 +83,13 @@ pub fn form_of(tag: usize) -> Form
         // difference
         3 => Form {
             a: How::Left,
-            third: MINUS,
+            third: Some(MINUS),
             b: How::Right,
             ..EMPTY
         },
         // null
         4 => Form {
-            first: NULL,
+            first: Some(NULL),
             ..EMPTY
         },
         // variable
@@ -100,127 +100,127 @@ pub fn form_of(tag: usize) -> Form
         // selection
         6 => Form {
             a: How::LeftOfDot,
-            third: DOT,
+            third: Some(DOT),
             b: How::RightOfDot,
             ..EMPTY
         },
         // proc
         7 => Form {
-            first: PROC,
+            first: Some(PROC),
             a: How::Name,
-            third: COLON,
+            third: Some(COLON),
             b: How::Whole,
             ..EMPTY
         },
         // true
         16 => Form {
-            first: TRUE,
+            first: Some(TRUE),
             ..EMPTY
         },
         // false
         17 => Form {
-            first: FALSE,
+            first: Some(FALSE),
             ..EMPTY
         },
         // equal
         18 => Form {
             a: How::Left,
-            third: EQUALS,
+            third: Some(EQUALS),
             b: How::Whole,
             ..EMPTY
         },
         // less
         19 => Form {
             a: How::Left,
-            third: LESS,
+            third: Some(LESS),
             b: How::Whole,
             ..EMPTY
         },
         // var
         32 => Form {
-            first: VAR,
+            first: Some(VAR),
             a: How::Name,
-            third: SEMICOLON,
+            third: Some(SEMICOLON),
             b: How::Whole,
             ..EMPTY
         },
         // call
         33 => Form {
             a: How::Callee,
-            third: OPENING_PARENTHESIS,
+            third: Some(OPENING_PARENTHESIS),
             b: How::Whole,
-            last: CLOSING_PARENTHESIS,
+            last: Some(CLOSING_PARENTHESIS),
             ..EMPTY
         },
         // malloc
         34 => Form {
-            first: MALLOC,
-            second: OPENING_PARENTHESIS,
+            first: Some(MALLOC),
+            second: Some(OPENING_PARENTHESIS),
             a: How::Name,
-            last: CLOSING_PARENTHESIS,
+            last: Some(CLOSING_PARENTHESIS),
             ..EMPTY
         },
         // assign
         35 => Form {
             a: How::Name,
-            third: EQUALS_SIGN,
+            third: Some(EQUALS_SIGN),
             b: How::Whole,
             ..EMPTY
         },
         // field assign
         36 => Form {
             a: How::Target,
-            third: DOT,
+            third: Some(DOT),
             b: How::RightOfDot,
-            fourth: EQUALS_SIGN,
+            fourth: Some(EQUALS_SIGN),
             c: How::Whole,
             ..EMPTY
         },
         // skip
         37 => Form {
-            first: SKIP,
+            first: Some(SKIP),
             ..EMPTY
         },
         // sequence
         38 => Form {
-            first: OPENING_BRACE,
+            first: Some(OPENING_BRACE),
             a: How::Whole,
-            third: SEMICOLON,
+            third: Some(SEMICOLON),
             b: How::Whole,
-            last: CLOSING_BRACE,
+            last: Some(CLOSING_BRACE),
             ..EMPTY
         },
         // while
         39 => Form {
-            first: WHILE,
+            first: Some(WHILE),
             a: How::Whole,
             b: How::Behind,
             ..EMPTY
         },
         // if
         40 => Form {
-            first: IF,
+            first: Some(IF),
             a: How::Whole,
             b: How::Behind,
-            fourth: ELSE,
+            fourth: Some(ELSE),
             c: How::Whole,
             ..EMPTY
         },
         // parallel
         41 => Form {
-            first: OPENING_BRACE,
+            first: Some(OPENING_BRACE),
             a: How::Whole,
-            third: BARS,
+            third: Some(BARS),
             b: How::Whole,
-            last: CLOSING_BRACE,
+            last: Some(CLOSING_BRACE),
             ..EMPTY
         },
         // atom
         42 => Form {
-            first: ATOM,
-            second: OPENING_PARENTHESIS,
+            first: Some(ATOM),
+            second: Some(OPENING_PARENTHESIS),
             a: How::Whole,
-            last: CLOSING_PARENTHESIS,
+            last: Some(CLOSING_PARENTHESIS),
             ..EMPTY
         },
         _ => EMPTY,

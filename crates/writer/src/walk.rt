@@ -33,7 +33,7 @@ fn put_int(pen: &mut Pen<'_>, low: usize, high: usize)
         pen.put_number(n);
         return;
     }
-    pen.put_mark(SIGN);
+    pen.put_mark(Some(SIGN));
     pen.put_number((1 << 32) - n);
 }
 
@@ -76,9 +76,9 @@ impl<'a> Spelling<'a> {
         let tag = script.image.tag_of(w);
         let before = how.passes(front);
         if how.asks(tag, self.ends[w], front) {
-            pen.put_mark(OPENING_PARENTHESIS);
+            pen.put_mark(Some(OPENING_PARENTHESIS));
             self.put_node(pen, w, before);
-            pen.put_mark(CLOSING_PARENTHESIS);
+            pen.put_mark(Some(CLOSING_PARENTHESIS));
             return;
         }
         self.put_node(pen, w, before);
