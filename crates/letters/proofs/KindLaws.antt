@@ -4,12 +4,12 @@ use Prim.Native.Nat.{ℕ, zero, suc, ◌+◌, ◌*◌, ◌-◌, ◌^◌, ◌<◌
 use mathlib.Core.Path.{◌≡◌, refl, ◌∙◌}
 use mathlib.Core.Bool.{Bool, true, false, cond, ◌&&◌}
 use mathlib.Core.Option.{none, some}
-use mathlib.Core.List.{List, ◌∷◌}
+use mathlib.Core.List.{List, [], ◌∷◌}
 use native.Mathlib.Omega.{arith}
 use native.Mathlib.Nat.{pow-suc}
 use lib.Dec.{eqb}
-use lib.ListN.{length, get_or}
-use lib.Seq.{slice, slice_empty, slice-cons, length-slice}
+use lib.ListN.{length, get_or, drop, drop_of_length-le}
+use lib.Seq.{drop-cons}
 use borrow.Author.Tests.{eq-eqb, ne_eqb, eqb-true}
 use Rattle.grammar.specs.Classes.{class_of, is_digit}
 use Rattle.grammar.specs.Tokens.{reserved, single, double, same_word, spelled}
@@ -19,19 +19,18 @@ use Rattle.letters.proofs.TableLaws.{reserved-fine, by_number, not-long}
 
 -- ---- a word is packed
 
-pub record Packing (s : List ℕ) (from to i n : ℕ) : Type 0 where
-  pub not-below : from ≤ i
-  pub not-above : i ≤ to
-  pub is : n ≡ packed (slice i to s)
-  pub bytes : Bytes (slice i to s)
-  pub small : n < 2 * 256 ^ (to - i)
+pub record Packing (w : List ℕ) (i n : ℕ) : Type 0 where
+  pub not-above : i ≤ length w
+  pub is : n ≡ packed (drop i w)
+  pub bytes : Bytes (drop i w)
+  pub small : n < 2 * 256 ^ (length w - i)
 
-pub packs-none : {s : List ℕ} {from to : ℕ} → from ≤ to → Packing s from to to 1
+pub packs-none : {w : List ℕ} → Packing w (length w) 1
 unfolding packed
-packs-none {s} {from} {to} h =
-    let e = slice_empty to s in
-    let z : to - to ≡ 0 = omega arith in
-    record { not-below = h; not-above = omega arith; is = rw e; bytes = rw e tt; small = rw z (omega arith) }
+packs-none {w} =
+    let e : drop (length w) w ≡ [] = drop_of_length-le w (omega arith) in
+    let z : length w - length w ≡ 0 = omega arith in
+    record { not-above = omega arith; is = rw e; bytes = rw e tt; small = rw z (omega arith) }
 
 few : (n j : ℕ) → n < 2 * 256 ^ j → j ≤ 5 → n < 2199023255552
 few n zero h l = omega arith
@@ -42,34 +41,32 @@ few n (suc (suc (suc (suc zero)))) h l = omega arith
 few n (suc (suc (suc (suc (suc zero))))) h l = omega arith
 few n (suc (suc (suc (suc (suc (suc j)))))) h l = absurd (omega arith)
 
-module _ {s : List ℕ} {from to i n : ℕ} (p : Packing s from to i n) where
-  pub packs-few : from < i → to ≤ from + 6 → n < 2199023255552
-  packs-few h m = few n (to - i) p.small (omega (arith, p.not-above))
+module _ {w : List ℕ} {i n : ℕ} (p : Packing w i n) where
+  pub packs-few : 0 < i → length w ≤ 6 → n < 2199023255552
+  packs-few h m = few n (length w - i) p.small (omega (arith, p.not-above))
 
-  pub packs-on : {b : ℕ} → from < i → to ≤ length s → b ≡ get_or s (i - 1) 0 → b < 256 → Packing s from to (i - 1) (n * 256 + b)
+  pub packs-on : {b : ℕ} → 0 < i → b ≡ get_or w (i - 1) 0 → b < 256 → Packing w (i - 1) (n * 256 + b)
   unfolding packed
-  packs-on {b} h l e f =
+  packs-on {b} h e f =
       let a = p.not-above in
       let one : suc (i - 1) ≡ i = omega arith in
-      let more : slice (i - 1) to s ≡ b ∷ slice i to s =
-      slice-cons (i - 1) to s 0 (omega arith) l ∙ rw (one, ← e) in
-      let next : to - (i - 1) ≡ suc (to - i) = omega arith in
+      let more : drop (i - 1) w ≡ b ∷ drop i w = drop-cons w (i - 1) 0 (omega arith) ∙ rw (one, ← e) in
+      let next : length w - (i - 1) ≡ suc (length w - i) = omega arith in
       record {
-        not-below = omega arith;
         not-above = omega arith;
         is = rw more (omega (arith, p.is));
         bytes = rw more (f, p.bytes);
-        small = rw (next, pow-suc 256 (to - i)) (omega (arith, p.small));
+        small = rw (next, pow-suc 256 (length w - i)) (omega (arith, p.small));
       }
 
-  pub packs-all : i ≤ from → (n ≡ packed (slice from to s)) × Bytes (slice from to s)
-  packs-all h = let e : i ≡ from = omega (arith, p.not-below) in rw (← e) (p.is, p.bytes)
+  pub packs-all : i ≤ 0 → (n ≡ packed w) × Bytes w
+  packs-all h = let e : i ≡ 0 = omega arith in (rw e at p.is, rw e at p.bytes)
 
 -- ---- the kind of a word
 
-pub long-kind : (s : List ℕ) (from to : ℕ) → to ≤ length s → 6 < to - from → 2 ≡ word_kind (slice from to s)
+pub long-kind : (w : List ℕ) → 6 < length w → 2 ≡ word_kind w
 unfolding word_kind kind_or
-long-kind s from to l h = rw (not-long (slice from to s) (rw (length-slice from to s l) h) reserved reserved-fine)
+long-kind w h = rw (not-long w h reserved reserved-fine)
 
 pub short-kind : (w : List ℕ) (n r : ℕ) → n ≡ packed w → Bytes w → r ≡ kind_or (numbered n reserved) → r ≡ word_kind w
 unfolding word_kind
@@ -95,6 +92,8 @@ not-reserved n e1 e2 e3 e4 e5 e6 e7 e8 e9 e10 e11 e12 =
     rw
     (ne_eqb n 6114014574 e1, ne_eqb n 5963215472 e2, ne_eqb n 5997163124 e3, ne_eqb n 1535239807334 e4, ne_eqb n 24273270 e5, ne_eqb n 390805188272493 e6, ne_eqb n 6180924275 e7, ne_eqb n 1535122172023 e8, ne_eqb n 91753 e9, ne_eqb n 5997030501 e10, ne_eqb n 6130988129 e11, ne_eqb n 23880054 e12)
 
+pub ruleset word_lemmas = (not-reserved)
+
 -- ---- a symbol
 
 pub a-sign-kind : (c k : ℕ) → k ≡ class_of c → k ≡ 4 → 4 ≡ minus_kind c
@@ -105,29 +104,33 @@ pub a-minus-kind : (c k : ℕ) → k ≡ class_of c → (k ≡ 4 → ⊥) → 5 
 unfolding minus_kind is_digit
 a-minus-kind c k e f = rw (← e, ne_eqb k 4 f)
 
-module _ (b c r : ℕ) where
-  pub equals-kind : b ≡ 61 → r ≡ cond (eqb c 61) 25 24 → r ≡ symbol_kind b c
-  unfolding symbol_kind or_else spelled same_word single double
-  equals-kind e f = f ∙ rw e (go (eqb c 61))
-    where
-      go : (t : Bool) → cond t 25 24 ≡ or_else (cond (t && true) (some 25) none) 24
-      go true = refl
-      go false = refl
+pub ruleset minus_lemmas = (a-sign-kind, a-minus-kind)
 
-  pub bars-kind : b ≡ 124 → r ≡ cond (eqb c 124) 22 28 → r ≡ symbol_kind b c
+module _ (b c : ℕ) where
+  pub equals-kind : b ≡ 61 → c ≡ 61 → 25 ≡ symbol_kind b c
   unfolding symbol_kind or_else spelled same_word single double
-  bars-kind e f = f ∙ rw e (go (eqb c 124))
-    where
-      go : (t : Bool) → cond t 22 28 ≡ or_else (cond (t && true) (some 22) none) 28
-      go true = refl
-      go false = refl
+  equals-kind e f = rw (e, f)
 
-  pub minus-kind : (b ≡ 40 → ⊥) → (b ≡ 41 → ⊥) → (b ≡ 123 → ⊥) → (b ≡ 125 → ⊥) → (b ≡ 59 → ⊥) → (b ≡ 46 → ⊥) → (b ≡ 60 → ⊥) → (b ≡ 58 → ⊥) → (b ≡ 61 → ⊥) → (b ≡ 124 → ⊥) → r ≡ minus_kind c → r ≡ symbol_kind b c
+  pub becomes-kind : b ≡ 61 → (c ≡ 61 → ⊥) → 24 ≡ symbol_kind b c
   unfolding symbol_kind or_else spelled same_word single double
-  minus-kind e1 e2 e3 e4 e5 e6 e7 e8 e9 e10 f =
+  becomes-kind e n = rw (e, ne_eqb c 61 n)
+
+  pub bars-kind : b ≡ 124 → c ≡ 124 → 22 ≡ symbol_kind b c
+  unfolding symbol_kind or_else spelled same_word single double
+  bars-kind e f = rw (e, f)
+
+  pub bar-kind : b ≡ 124 → (c ≡ 124 → ⊥) → 28 ≡ symbol_kind b c
+  unfolding symbol_kind or_else spelled same_word single double
+  bar-kind e n = rw (e, ne_eqb c 124 n)
+
+  pub minus-kind : (r : ℕ) → (b ≡ 40 → ⊥) → (b ≡ 41 → ⊥) → (b ≡ 123 → ⊥) → (b ≡ 125 → ⊥) → (b ≡ 59 → ⊥) → (b ≡ 46 → ⊥) → (b ≡ 60 → ⊥) → (b ≡ 58 → ⊥) → (b ≡ 61 → ⊥) → (b ≡ 124 → ⊥) → r ≡ minus_kind c → r ≡ symbol_kind b c
+  unfolding symbol_kind or_else spelled same_word single double
+  minus-kind r e1 e2 e3 e4 e5 e6 e7 e8 e9 e10 f =
       f
       ∙ rw
       (ne_eqb b 124 e10, ne_eqb b 61 e9, ne_eqb b 40 e1, ne_eqb b 41 e2, ne_eqb b 123 e3, ne_eqb b 125 e4, ne_eqb b 59 e5, ne_eqb b 46 e6, ne_eqb b 60 e7, ne_eqb b 58 e8)
+
+pub ruleset symbol_lemmas = (equals-kind, becomes-kind, bars-kind, bar-kind, minus-kind)
 
 -- ---- its width
 
@@ -158,8 +161,4 @@ module _ (b c : ℕ) where
   unfolding symbol_width paired present spelled same_word double
   plain-width n m = rw (ne_eqb b 124 m, ne_eqb b 61 n)
 
-pub first_of : (a b x y : ℕ) → a ≡ b → x ≡ cond (eqb a b) x y
-first_of a b x y e = rw (eq-eqb a b e)
-
-pub second-of : (a b x y : ℕ) → (a ≡ b → ⊥) → y ≡ cond (eqb a b) x y
-second-of a b x y e = rw (ne_eqb a b e)
+pub ruleset width_lemmas = (other_width, equals-width, bars-width, plain-width)

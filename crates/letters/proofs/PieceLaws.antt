@@ -1,5 +1,5 @@
 -- What stands at a byte that is no blank: a word, a number or a bad byte. Assumes nothing.
-use Prim.Native.Nat.{ℕ, suc, ◌+◌, ◌<◌, ◌≤◌}
+use Prim.Native.Nat.{ℕ, suc, ◌+◌, ◌-◌, ◌<◌, ◌≤◌}
 use mathlib.Core.Path.{◌≡◌, refl, sym, ap, ◌∙◌}
 use mathlib.Core.Bool.{Bool, true, false, cond, ◌&&◌}
 use mathlib.Core.Option.{Option, none, some}
@@ -130,6 +130,14 @@ module _ (s : List ℕ) (at line to : ℕ) (h : at < length s) where
       (word k (rw c) e l (omega (arith, r.0)) (omega (arith, r.1)) (rw g (lower-piece (get_or s at 0) (take n (drop (suc at) s)) c)))
       (rw c e)
       (rw c f)
+
+  pub lower-stands-so : (k j : ℕ) → class_of (get_or s at 0) ≡ lower → to ≡ at + 1 + run in_word (drop (at + 1) s) → to ≤ length s
+      → k ≡ j → j ≡ word_kind (take (to - at) (drop at s))
+      → Stands s at line (record { kind = k; from = at; to = to; line = line })
+  lower-stands-so k j c e l i f =
+      let n : at + (to - at) ≡ to = omega arith in
+      let part : slice at to s ≡ take (to - at) (drop at s) = rw n at (slice-run s at (to - at) (omega arith)) in
+      lower-stands k c e l (i ∙ f ∙ ap word_kind (sym part))
 
   -- ---- a number
 

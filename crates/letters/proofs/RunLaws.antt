@@ -5,6 +5,7 @@ use mathlib.Core.Bool.{Bool, true, false, cond, ◌||◌}
 use mathlib.Core.List.{List, [], ◌∷◌}
 use native.Mathlib.Omega.{arith}
 use native.Mathlib.Numerals.{add-one}
+use mathlib.Core.Logic.{◌⊎◌, ⊎_elim}
 use lib.Dec.{eqb}
 use lib.ListN.{length, get_or, take, drop, drop_of_length-le}
 use lib.Seq.{drop-cons}
@@ -95,6 +96,10 @@ module _ {s : List ℕ} {at i c : ℕ} (r : Running in_word s at i) (h : i < len
 
   pub word_on : 2 ≤ c → c ≤ 4 → Running in_word s at (i + 1)
   word_on l m = goes_on r h (inside (get_or s i 0) e l m)
+
+module _ {s : List ℕ} {at i c : ℕ} (r : Running in_word s at i) (h : i < length s) (e : c ≡ class_of (get_or s i 0)) where
+  pub word-out : (c < 2) ⊎ ((2 ≤ c) × (4 < c)) → i ≡ at + run in_word (drop at s)
+  word-out d = ⊎_elim (λ l. word_low r h e l) (λ l. word-high r h e l.1) d
 
 module _ {s : List ℕ} {at i c : ℕ} (r : Running is_digit s at i) (h : i < length s) (e : c ≡ class_of (get_or s i 0)) where
   pub number-stops : (c ≡ 4 → ⊥) → i ≡ at + run is_digit (drop at s)

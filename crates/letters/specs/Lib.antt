@@ -1,4 +1,5 @@
 pub mod Table
+pub mod Token
 pub mod Past
 pub mod Runs
 pub mod Kinds

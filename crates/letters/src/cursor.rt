@@ -7,56 +7,40 @@ use crate::classes::class_of;
 
 const BLANK: u8 = 1;
 
-const LINE_END: u8 = 10;
-
-// where the reader is: a byte of the text, and the line on which it stands
+/// Where the reader is: a byte of the text, and the line on which it stands.
 #[derive(Clone, Copy)]
 pub struct Cursor {
     pub at: usize,
     pub line: usize,
 }
 
+// the line of the byte behind this one
 fn line_after(b: u8, line: usize) -> usize
     requires { line < 9223372036854775808 }
     ensures { (result ≡ line_after b line) × (result ≤ line + 1) }
 {
-    if b == LINE_END {
-        return line + 1;
-    }
-    line
+    if b == b'\n' { line + 1 } else { line }
 }
 
-fn past_from(s: &[u8], at: usize, line: usize) -> Cursor
-    requires { (at ≤ length s.now) × (line ≤ at + 1) }
-    ensures { result ≡ past s.now at line }
-{
-    let mut i = at;
-    let mut n = line;
-    while i < s.len() {
-        let b = s[i];
-        if class_of(b) != BLANK {
-            return Cursor { at: i, line: n };
+impl Cursor {
+    /// Moves past blanks, counting lines, to the first byte that is no blank, or to the end.
+    pub fn past_blanks(&mut self, text: &[u8])
+        requires { (self.old.at ≤ length text.now) × (self.old.line ≤ self.old.at + 1) }
+        ensures { self.new ≡ past text.now self.old.at self.old.line }
+    {
+        while self.at < text.len() && class_of(text[self.at]) == BLANK {
+            self.line = line_after(text[self.at], self.line);
+            self.at += 1;
         }
-        n = line_after(b, n);
-        i += 1;
     }
-    Cursor { at: i, line: n }
 }
 
-// the reader is moved past blanks, counting lines as it goes
-pub fn past_blanks(c: &mut Cursor, s: &[u8])
-    requires { (c.old.at ≤ length s.now) × (c.old.line ≤ c.old.at + 1) }
-    ensures { c.new ≡ past s.now c.old.at c.old.line }
+/// The same from a byte and its line: whoever calls this one sees no reference to a cursor.
+pub fn place_after(text: &[u8], at: usize, line: usize) -> Cursor
+    requires { (at ≤ length text.now) × (line ≤ at + 1) }
+    ensures { result ≡ past text.now at line }
 {
-    *c = past_from(s, c.at, c.line);
-}
-
-// the same from a byte and its line: whoever calls this one sees no reference to a cursor
-pub fn place_after(s: &[u8], at: usize, line: usize) -> Cursor
-    requires { (at ≤ length s.now) × (line ≤ at + 1) }
-    ensures { result ≡ past s.now at line }
-{
-    let mut c = Cursor { at, line };
-    past_blanks(&mut c, s);
-    c
+    let mut cursor = Cursor { at, line };
+    cursor.past_blanks(text);
+    cursor
 }

@@ -1,120 +1,126 @@
-// The kind of a word that begins with a lower-case letter, and of a symbol, by number as in Tokens.
-// A word of at most six bytes is packed into one number that no other word has: its bytes are digits in base 256, the first one lowest, with
-// a 1 behind the last. The twelve reserved words are twelve numbers.
-ghost use Rattle.std.specs.Prelude.{◌≡◌, cond, ◌+◌, ◌≤◌, ◌<◌, eqb, length};
-ghost use Rattle.std.proofs.Math.Seq.{slice};
+// The kind of a word that begins with a lower-case letter, and of a symbol.
+ghost use Rattle.std.specs.Prelude.{◌≡◌, ◌≤◌, length};
 ghost use Rattle.grammar.specs.Tokens.{reserved};
-ghost use Rattle.letters.specs.Kinds.{Bytes, packed, numbered, word_kind, kind_or, minus_kind, symbol_kind, symbol_width};
+ghost use Rattle.letters.specs.Kinds.{Bytes, packed, numbered, kind_or, word_kind, minus_kind, symbol_kind, symbol_width};
+ghost use Rattle.letters.specs.Token.{token_no};
 
 use crate::classes::class_of;
+use crate::token::Token;
 
 const DIGIT: u8 = 4;
 
-const FIELD: u32 = 2;
-
-const SIGN: u32 = 4;
-
-const MINUS: u32 = 5;
-
+// of the reserved words; a match on byte strings instead leaves a goal for each of the 41 ways to the last arm
 const LONGEST: usize = 6;
 
-fn wide(b: u8) -> u64
-    ensures { (result ≡ b) × (result < 256) }
-{
-    b as u64
-}
-
-fn pack(text: &[u8], from: usize, to: usize) -> u64
-    requires { (from ≤ to) × (to ≤ from + 6) × (to ≤ length text.now) }
-    ensures { (result ≡ packed (slice from to text.now)) × Bytes (slice from to text.now) }
+// A word of at most six bytes as one number, which no other word has: its bytes are digits in base 256, the first one lowest, with a 1 behind the last.
+fn number_of_word(word: &[u8]) -> u64
+    requires { length word.now ≤ 6 }
+    ensures { (result ≡ packed word.now) × Bytes word.now }
 {
     let mut n: u64 = 1;
-    let mut i = to;
-    while from < i {
-        i -= 1;
-        n = n * 256 + wide(text[i]);
+    for i in (0..word.len()).rev() {
+        n = n * 256 + u64::from(word[i]);
     }
     n
 }
 
-fn reserved_kind(n: u64) -> u32
-    ensures { result ≡ kind_or (numbered n reserved) }
+const NULL: u64 = 0x1_6c6c756e; // null
+
+const PROC: u64 = 0x1_636f7270; // proc
+
+const TRUE: u64 = 0x1_65757274; // true
+
+const FALSE: u64 = 0x1_65736c6166; // false
+
+const VAR: u64 = 0x1_726176; // var
+
+const MALLOC: u64 = 0x1_636f6c6c616d; // malloc
+
+const SKIP: u64 = 0x1_70696b73; // skip
+
+const WHILE: u64 = 0x1_656c696877; // while
+
+const IF: u64 = 0x1_6669; // if
+
+const ELSE: u64 = 0x1_65736c65; // else
+
+const ATOM: u64 = 0x1_6d6f7461; // atom
+
+const VAL: u64 = 0x1_6c6176; // val
+
+#[tactic(auto, using(crate::proofs::KindLaws::word_lemmas), unfolding(crate::specs::Kinds::kind_or, crate::specs::Kinds::numbered, crate::specs::Kinds::packed, grammar::specs::Tokens::reserved))]
+fn reserved_kind(n: u64) -> Token
+    ensures { token_no result ≡ kind_or (numbered n reserved) }
 {
     match n {
-        6114014574 => 6, // null
-        5963215472 => 7, // proc
-        5997163124 => 8, // true
-        1535239807334 => 9, // false
-        24273270 => 10, // var
-        390805188272493 => 11, // malloc
-        6180924275 => 12, // skip
-        1535122172023 => 13, // while
-        91753 => 14, // if
-        5997030501 => 15, // else
-        6130988129 => 16, // atom
-        23880054 => 28, // val
-        _ => FIELD,
+        NULL => Token::Null,
+        PROC => Token::Proc,
+        TRUE => Token::True,
+        FALSE => Token::False,
+        VAR => Token::Var,
+        MALLOC => Token::Malloc,
+        SKIP => Token::Skip,
+        WHILE => Token::While,
+        IF => Token::If,
+        ELSE => Token::Else,
+        ATOM => Token::Atom,
+        VAL => Token::Nowhere,
+        _ => Token::Field,
     }
 }
 
-pub fn kind_of_word(text: &[u8], from: usize, to: usize) -> u32
-    requires { (from ≤ to) × (to ≤ length text.now) }
-    ensures { result ≡ word_kind (slice from to text.now) }
+/// A reserved word's kind, or a field's.
+pub fn kind_of_word(word: &[u8]) -> Token
+    ensures { token_no result ≡ word_kind word.now }
 {
-    if LONGEST < to - from {
-        return FIELD;
+    if LONGEST < word.len() {
+        return Token::Field;
     }
-    reserved_kind(pack(text, from, to))
+    reserved_kind(number_of_word(word))
 }
 
-// one of two kinds: the byte after a symbol is this one or not
-fn either(after: u8, b: u8, two: u32, one: u32) -> u32
-    ensures { result ≡ cond (eqb after b) two one }
-{
-    if after == b {
-        return two;
-    }
-    one
-}
-
-fn minus_before(after: u8) -> u32
-    ensures { result ≡ minus_kind after }
+// a minus, by the byte after it
+#[tactic(auto, using(crate::proofs::KindLaws::minus_lemmas))]
+fn minus_before(after: u8) -> Token
+    ensures { token_no result ≡ minus_kind after }
 {
     if class_of(after) == DIGIT {
-        return SIGN;
+        Token::Sign
+    } else {
+        Token::Minus
     }
-    MINUS
 }
 
-pub fn kind_of_symbol(b: u8, after: u8) -> u32
-    ensures { result ≡ symbol_kind b after }
+/// The kind of the symbol that begins with byte `b`, by the byte after it; 0 stands for the text's end.
+#[tactic(auto, using(crate::proofs::KindLaws::symbol_lemmas), unfolding(crate::specs::Kinds::symbol_kind, crate::specs::Kinds::or_else, grammar::specs::Tokens::spelled, grammar::specs::Tokens::same_word, grammar::specs::Tokens::single, grammar::specs::Tokens::double))]
+pub fn kind_of_symbol(b: u8, after: u8) -> Token
+    ensures { token_no result ≡ symbol_kind b after }
 {
     match b {
-        40 => 17, // (
-        41 => 18, // )
-        123 => 19, // {
-        125 => 20, // }
-        59 => 21, // ;
-        46 => 23, // .
-        60 => 26, // <
-        58 => 27, // :
-        61 => either(after, 61, 25, 24), // == or =
-        124 => either(after, 124, 22, 28), // || or |
+        b'(' => Token::OpeningParenthesis,
+        b')' => Token::ClosingParenthesis,
+        b'{' => Token::OpeningBrace,
+        b'}' => Token::ClosingBrace,
+        b';' => Token::Semicolon,
+        b'.' => Token::Dot,
+        b'<' => Token::Below,
+        b':' => Token::Colon,
+        b'=' if after == b'=' => Token::Equals,
+        b'=' => Token::Becomes,
+        b'|' if after == b'|' => Token::Bars,
+        b'|' => Token::Nowhere,
         _ => minus_before(after),
     }
 }
 
+/// How many bytes it has.
+#[tactic(auto, using(crate::proofs::KindLaws::width_lemmas))]
 pub fn width_of_symbol(b: u8, after: u8) -> usize
     ensures { (result ≡ symbol_width b after) × (result ≤ 2) }
 {
-    if after != b {
-        return 1;
+    match b {
+        b'=' if after == b'=' => 2,
+        b'|' if after == b'|' => 2,
+        _ => 1,
     }
-    if b == 61 {
-        return 2;
-    }
-    if b == 124 {
-        return 2;
-    }
-    1
 }

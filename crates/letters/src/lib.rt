@@ -7,3 +7,4 @@ pub mod kinds;
 pub mod numbers;
 pub mod places;
 pub mod runs;
+pub mod token;

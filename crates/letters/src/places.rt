@@ -8,6 +8,7 @@ use crate::classes::class_of;
 use crate::cursor::place_after;
 use crate::kinds::{kind_of_symbol, kind_of_word, width_of_symbol};
 use crate::runs::{number_end, word_end};
+use crate::token::Token;
 
 const UPPER: u8 = 2;
 
@@ -17,7 +18,13 @@ const DIGIT: u8 = 4;
 
 const SYMBOL: u8 = 5;
 
-// the bytes from `from` up to `to`, which stand on `line`
+/// The kind of the end of a text, which is no token.
+pub const END: u32 = 0;
+
+/// The kind of a byte that begins no token.
+pub const BAD_BYTE: u32 = 29;
+
+/// The bytes from `from` up to `to`, which stand on `line`. Their kind is a token's number, 1 to 28, or one of the two above.
 #[derive(Clone, Copy)]
 pub struct Place {
     pub kind: u32,
@@ -32,7 +39,7 @@ fn name_at(text: &[u8], at: usize, line: usize) -> Place
 {
     let to = word_end(text, at + 1);
     Place {
-        kind: 1,
+        kind: Token::Name as u32,
         from: at,
         to,
         line,
@@ -44,9 +51,8 @@ fn lower_at(text: &[u8], at: usize, line: usize) -> Place
     ensures { Stands text.now at line result }
 {
     let to = word_end(text, at + 1);
-    let kind = kind_of_word(text, at, to);
     Place {
-        kind,
+        kind: u32::from(kind_of_word(&text[at..to])),
         from: at,
         to,
         line,
@@ -59,7 +65,7 @@ fn number_at(text: &[u8], at: usize, line: usize) -> Place
 {
     let to = number_end(text, at + 1);
     Place {
-        kind: 3,
+        kind: Token::Number as u32,
         from: at,
         to,
         line,
@@ -70,10 +76,7 @@ fn number_at(text: &[u8], at: usize, line: usize) -> Place
 fn byte_at(text: &[u8], at: usize) -> u8
     ensures { result ≡ get_or text.now at 0 }
 {
-    if at < text.len() {
-        return text[at];
-    }
-    0
+    text.get(at).copied().unwrap_or(0)
 }
 
 fn symbol_at(text: &[u8], at: usize, line: usize) -> Place
@@ -82,12 +85,10 @@ fn symbol_at(text: &[u8], at: usize, line: usize) -> Place
 {
     let b = text[at];
     let after = byte_at(text, at + 1);
-    let kind = kind_of_symbol(b, after);
-    let to = at + width_of_symbol(b, after);
     Place {
-        kind,
+        kind: u32::from(kind_of_symbol(b, after)),
         from: at,
-        to,
+        to: at + width_of_symbol(b, after),
         line,
     }
 }
@@ -96,14 +97,13 @@ fn piece_at(text: &[u8], at: usize, line: usize) -> Place
     requires { (at < length text.now) × (class_of (get_or text.now at 0) ≡ blank → ⊥) }
     ensures { Stands text.now at line result }
 {
-    let class = class_of(text[at]);
-    match class {
+    match class_of(text[at]) {
         UPPER => name_at(text, at, line),
         LOWER => lower_at(text, at, line),
         DIGIT => number_at(text, at, line),
         SYMBOL => symbol_at(text, at, line),
         _ => Place {
-            kind: 29,
+            kind: BAD_BYTE,
             from: at,
             to: at + 1,
             line,
@@ -111,20 +111,19 @@ fn piece_at(text: &[u8], at: usize, line: usize) -> Place
     }
 }
 
+/// What stands behind byte `at`, which is on `line`: the next token, a bad byte, or the end of the text.
 pub fn next(text: &[u8], at: usize, line: usize) -> Place
     requires { (at ≤ length text.now) × (line ≤ at + 1) }
     ensures { NextSays text.now at line result }
 {
-    let c = place_after(text, at, line);
-    let from = c.at;
-    let on = c.line;
-    if from < text.len() {
-        return piece_at(text, from, on);
+    let start = place_after(text, at, line);
+    if start.at < text.len() {
+        return piece_at(text, start.at, start.line);
     }
     Place {
-        kind: 0,
-        from,
-        to: from,
-        line: on,
+        kind: END,
+        from: start.at,
+        to: start.at,
+        line: start.line,
     }
 }

@@ -10,35 +10,30 @@ const UPPER: u8 = 2;
 
 const DIGIT: u8 = 4;
 
+/// Where the letters and digits end that stand from byte `at` on.
 pub fn word_end(text: &[u8], at: usize) -> usize
     requires { at ≤ length text.now }
     ensures { (result ≡ at + run in_word (drop at text.now)) × (result ≤ length text.now) }
 {
-    let mut i = at;
-    while i < text.len() {
-        let c = class_of(text[i]);
-        if c < UPPER {
+    for i in at..text.len() {
+        let class = class_of(text[i]);
+        if class < UPPER || DIGIT < class {
             return i;
         }
-        if DIGIT < c {
-            return i;
-        }
-        i += 1;
     }
-    i
+    text.len()
 }
 
+/// Where the digits end that stand from byte `at` on.
 #[tactic(auto, using(crate::proofs::Cited::runs_number_end_lemmas))]
 pub fn number_end(text: &[u8], at: usize) -> usize
     requires { at ≤ length text.now }
     ensures { (result ≡ at + run is_digit (drop at text.now)) × (result ≤ length text.now) }
 {
-    let mut i = at;
-    while i < text.len() {
+    for i in at..text.len() {
         if class_of(text[i]) != DIGIT {
             return i;
         }
-        i += 1;
     }
-    i
+    text.len()
 }

@@ -3,8 +3,8 @@ use Rattle.letters.proofs.KindLaws.{long-kind, short-kind}
 use Rattle.std.proofs.Common.{rules}
 use Rattle.letters.proofs.kinds.kind_of_word.Goals as goal
 
-pub returns-then-to-from-gt-LONGEST : goal.returns-then-to-from-gt-LONGEST
-returns-then-to-from-gt-LONGEST c = search (rules, long-kind, short-kind)
+pub returns-then-word-gt-LONGEST : goal.returns-then-word-gt-LONGEST
+returns-then-word-gt-LONGEST c = search (rules, long-kind, short-kind)
 
 pub returns : goal.returns
 returns c = search (rules, long-kind, short-kind)

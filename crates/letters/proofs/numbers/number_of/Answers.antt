@@ -1,13 +1,12 @@
 -- `letters::numbers::number_of` meets its contract: what is summed and what is left make the whole number. Assumes nothing.
-use Rattle.letters.proofs.NumberLaws.{sums_none, sums_on, sums-all}
-use Rattle.std.proofs.Common.{rules}
+use Rattle.letters.proofs.NumberLaws.{sums_none, sums-next, sums-over}
 use Rattle.letters.proofs.numbers.number_of.Goals as goal
 
-pub loop-i-init : goal.loop-i-init
-loop-i-init c = search (rules, sums_none, sums_on, sums-all)
+pub loop-b-init : goal.loop-b-init
+loop-b-init c = sums_none _ _ _ c.requires.0
 
-pub loop-i-preserved : goal.loop-i-preserved
-loop-i-preserved c = search (rules, sums_none, sums_on, sums-all)
+pub loop-b-preserved : goal.loop-b-preserved
+loop-b-preserved c = sums-next c.loop-b.invariant c.loop-b-test.true c.requires.0 c.requires.1 c.with_digit-n.ensures
 
 pub returns : goal.returns
-returns c = search (rules, sums_none, sums_on, sums-all)
+returns c = sums-over c.loop-b.invariant c.loop-b-test.false c.requires.0 c.requires.1

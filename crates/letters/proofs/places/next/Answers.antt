@@ -6,8 +6,8 @@ use Rattle.letters.proofs.places.next.Goals as goal
 pub piece_at-requires : goal.piece_at-requires
 piece_at-requires c = search (rules, no-blank-there, says-found, says-end)
 
-pub returns-then-from-text : goal.returns-then-from-text
-returns-then-from-text c = search (rules, no-blank-there, says-found, says-end)
+pub returns-then-start-text : goal.returns-then-start-text
+returns-then-start-text c = search (rules, no-blank-there, says-found, says-end)
 
 pub returns : goal.returns
 returns c = search (rules, no-blank-there, says-found, says-end)
