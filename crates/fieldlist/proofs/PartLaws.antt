@@ -1,7 +1,7 @@
 -- The parts of a row as the code reads them: a law for each answer. Assumes nothing.
 use Prim.Native.Nat.{ℕ, zero, suc, ◌+◌, ◌-◌, ◌<◌, ◌≤◌, min}
 use mathlib.Core.Path.{◌≡◌, refl, sym, ap, ◌∙◌}
-use mathlib.Core.Bool.{Bool, true, false, cond, not, ◌&&◌}
+use mathlib.Core.Bool.{Bool, true, false, cond, not, ◌&&◌, true≢false}
 use mathlib.Core.Option.{Option, none, some}
 use mathlib.Core.List.{List, [], ◌∷◌}
 use native.Mathlib.Omega.{arith}
@@ -10,13 +10,18 @@ use native.Mathlib.Numerals.{add-one}
 use lib.Dec.{eqb, ltb, leb}
 use lib.ListN.{length, get_or, take, drop}
 use lib.Seq.{slice}
-use borrow.Author.Tests.{eq-eqb, ne_eqb, lt-ltb, le-ltb, lt-leb, le-leb, ltb-true, ltb-false, leb-true, leb-false, not-false}
+use borrow.Author.Tests.{eq-eqb, ne_eqb, eqb-true, lt-ltb, le-ltb, lt-leb, le-leb, ltb-true, ltb-false, leb-true, leb-false, not-false}
 use Rattle.laws.specs.Bools.{and_both}
 use Rattle.grammar.specs.Classes.{lower, class_of, is_digit, in_word}
 use Rattle.grammar.specs.Tokens.{Spelling, spelling, reserved, same_word, spelled}
 use Rattle.grammar.specs.Places.{begins, present, decimal}
 use Rattle.grammar.specs.FieldList.{position_of}
 use Rattle.letters.specs.Runs.{run}
+use denote.Enum.Bare.{sameb}
+use Rattle.letters.specs.contracts.token.Token.{the_type}
+use Rattle.letters.specs.declared.token.Token.{Token}
+use Rattle.letters.specs.declared.token.Token.TheVariants as T
+use Rattle.letters.specs.Token.{token_no}
 use Rattle.letters.specs.Kinds.{kind_or, word_kind}
 use Rattle.letters.proofs.RunLaws.{ran}
 use Rattle.fieldlist.specs.Judged.{name_end, code_end, code_at, first_of, name_fault, code_fault, unless}
@@ -208,6 +213,43 @@ unfolding present
 is_present None o e f = f ∙ rw (← e)
 is_present (Some k) o e f = f ∙ rw (← e)
 
+-- whether it is a field's kind is told by its number
+is_field : (t : Token) → sameb the_type t T.Field ≡ eqb (token_no t) 2
+is_field T.Name = refl
+is_field T.Field = refl
+is_field T.Number = refl
+is_field T.Sign = refl
+is_field T.Minus = refl
+is_field T.Null = refl
+is_field T.Proc = refl
+is_field T.True = refl
+is_field T.False = refl
+is_field T.Var = refl
+is_field T.Malloc = refl
+is_field T.Skip = refl
+is_field T.While = refl
+is_field T.If = refl
+is_field T.Else = refl
+is_field T.Atom = refl
+is_field T.OpeningParenthesis = refl
+is_field T.ClosingParenthesis = refl
+is_field T.OpeningBrace = refl
+is_field T.ClosingBrace = refl
+is_field T.Semicolon = refl
+is_field T.Bars = refl
+is_field T.Dot = refl
+is_field T.Becomes = refl
+is_field T.Equals = refl
+is_field T.Below = refl
+is_field T.Colon = refl
+is_field T.Nowhere = refl
+
+told-other : (t : Token) {r : Bool} → r ≡ not (sameb the_type t T.Field) → r ≡ true → token_no t ≡ 2 → ⊥
+told-other t {r} e f g = let z : not (eqb (token_no t) 2) ≡ true = rw (is_field t) at (sym e ∙ f) in true≢false (sym z ∙ rw (eq-eqb (token_no t) 2 g))
+
+told-field : (t : Token) {r : Bool} → r ≡ not (sameb the_type t T.Field) → r ≡ false → token_no t ≡ 2
+told-field t {r} e f = eqb-true (token_no t) 2 (not-false _ (rw (is_field t) at (sym e ∙ f)))
+
 module _ (s : List ℕ) (names : List (List ℕ)) (at : ℕ) {e c : ℕ}
     (there : at < length s) (ended : e ≡ at + run in_word (drop at s)) (within : e ≤ length s) (class : c ≡ class_of (get_or s at 0)) where
   ends_so : e ≡ name_end s at
@@ -221,28 +263,31 @@ module _ (s : List ℕ) (names : List (List ℕ)) (at : ℕ) {e c : ℕ}
   unfolding name_fault first_of
   not_lower n = rw (first-is, ne_eqb c 3 n)
 
-  module _ {q : ℕ} (kind : q ≡ word_kind (slice at e s)) where
-    pub name-reserved : c ≡ 3 → (q ≡ 2 → ⊥) → NameSays s names at (Err Reserved)
+  module _ (t : Token) {n : Bool} (kind : token_no t ≡ word_kind (take (e - at) (drop at s))) (other : n ≡ not (sameb the_type t T.Field)) where
+    kind-is : token_no t ≡ word_kind (slice at (name_end s at) s)
+    kind-is = rw (part-is s at e (omega (arith, ended)), ends_so) at kind
+
+    pub name-reserved : c ≡ 3 → n ≡ true → NameSays s names at (Err Reserved)
     unfolding name_fault first_of
-    name-reserved l n =
-        let f : present (spelled (slice at (name_end s at) s) reserved) ≡ true = kind-other _ q (rw ends_so at kind) n in
+    name-reserved l m =
+        let f : present (spelled (slice at (name_end s at) s) reserved) ≡ true = kind-other _ (token_no t) kind-is (told-other t other m) in
         rw (first-is, eq-eqb c 3 l, f)
 
     module _ (i : Optional ℕ) {r : Bool} (place : math_option i ≡ position_of (take (e - at) (drop at s)) names) (test : r ≡ is_some i) where
       known : r ≡ present (position_of (slice at (name_end s at) s) names)
       known = is_present i _ (rw (part-is s at e (omega (arith, ended)), ends_so) at place) test
 
-      pub name-repeated : c ≡ 3 → q ≡ 2 → r ≡ true → NameSays s names at (Err Repeated)
+      pub name-repeated : c ≡ 3 → n ≡ false → r ≡ true → NameSays s names at (Err Repeated)
       unfolding name_fault first_of
-      name-repeated l m n =
-          let f : present (spelled (slice at (name_end s at) s) reserved) ≡ false = kind-field _ q (rw ends_so at kind) m in
-          rw (first-is, eq-eqb c 3 l, f, ← known, n)
+      name-repeated l m u =
+          let f : present (spelled (slice at (name_end s at) s) reserved) ≡ false = kind-field _ (token_no t) kind-is (told-field t other m) in
+          rw (first-is, eq-eqb c 3 l, f, ← known, u)
 
-      pub name-right : c ≡ 3 → q ≡ 2 → r ≡ false → NameSays s names at (Ok e)
+      pub name-right : c ≡ 3 → n ≡ false → r ≡ false → NameSays s names at (Ok e)
       unfolding name_fault first_of
-      name-right l m n =
-          let f : present (spelled (slice at (name_end s at) s) reserved) ≡ false = kind-field _ q (rw ends_so at kind) m in
-          (rw (first-is, eq-eqb c 3 l, f, ← known, n), ends_so, within)
+      name-right l m u =
+          let f : present (spelled (slice at (name_end s at) s) reserved) ≡ false = kind-field _ (token_no t) kind-is (told-field t other m) in
+          (rw (first-is, eq-eqb c 3 l, f, ← known, u), ends_so, within)
 
 -- ---- the row
 

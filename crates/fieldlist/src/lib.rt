@@ -35,8 +35,8 @@ pub struct BadRow {
 pub fn rows(list: &[u8]) -> Result<FieldRows, BadRow>
     ensures { Answers list.now result }
 {
-    let mut names = [Span { from: 0, to: 0 }; MOST];
-    let mut codes = [0usize; MOST];
+    let mut names = [Span { from: 0, to: 0 }; 16];
+    let mut codes = [0; 16];
     let mut count: usize = 0;
     let mut last: usize = 0;
     let mut at: usize = 0;

@@ -12,10 +12,9 @@ use letters::classes::class_of;
 use letters::kinds::kind_of_word;
 use letters::numbers::number_of;
 use letters::runs::{number_end, word_end};
+use letters::token::Token;
 
 const LOWER: u8 = 3;
-
-const FIELD: u32 = 2;
 
 const LARGEST_CODE: usize = 65535;
 
@@ -44,10 +43,11 @@ fn name_part(list: &[u8], names: &[Span], at: usize) -> Result<usize, RowFault>
     if class_of(list[at]) != LOWER {
         return Err(RowFault::NoName);
     }
-    if kind_of_word(list, at, end) != FIELD {
+    let name = &list[at..end];
+    if kind_of_word(name) != Token::Field {
         return Err(RowFault::Reserved);
     }
-    if name_index(list, names, &list[at..end]).is_some() {
+    if name_index(list, names, name).is_some() {
         return Err(RowFault::Repeated);
     }
     Ok(end)
