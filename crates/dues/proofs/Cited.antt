@@ -1,13 +1,13 @@
 -- The lemmas that proofs cite by #[tactic(using)], a set for each function. Assumes nothing.
 use Rattle.dues.proofs.ElseLaws.{else-first-dotted, else-first-minus, else-name-first, else-test-minus}
-use Rattle.dues.proofs.OnlyLaws.{only-rows, row-atom-open, tag-there, row-proc-colon}
+use Rattle.dues.proofs.OnlyLaws.{only-rows, row-atom-open, row-proc-colon}
 use Rattle.dues.proofs.DeedLaws.{past-gives, negated-zero, negated-some, plain-in-words, signed-in-words}
 
 pub ruleset deeds_negative_integer_lemmas = (past-gives, negated-zero, negated-some)
 
 pub ruleset groups_beginning_lemmas = (only-rows, row-atom-open)
 
-pub ruleset groups_ending_lemmas = (only-rows, tag-there)
+pub ruleset groups_ending_lemmas = (only-rows)
 
 pub ruleset groups_selecting_lemmas = (only-rows)
 

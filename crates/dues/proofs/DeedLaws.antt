@@ -1,26 +1,15 @@
 -- What the answers of the table are made of: a node that comes out, and one thing more that is due. Assumes nothing.
-use Prim.Native.Nat.{ℕ, zero, suc, ◌+◌, ◌-◌, ◌<◌, ◌≤◌}
+use Prim.Native.Nat.{ℕ, ◌+◌, ◌-◌, ◌<◌, ◌≤◌}
 use mathlib.Core.Path.{◌≡◌, refl}
 use mathlib.Core.Bool.{Bool, true, false, cond}
 use mathlib.Core.List.{[], ◌∷◌}
 use native.Mathlib.Omega.{arith}
-use lib.ListN.{take as first_of}
 use lib.Dec.{eqb, ltb}
 use borrow.Author.Tests.{lt-ltb, le-ltb, eq-eqb, ne_eqb}
 use Rattle.grammar.specs.Grammar.{negated}
 use Rattle.reading.specs.Items.{put}
 use Rattle.reading.specs.Table.{Act, take, pass, refuse, plain, signed, after}
 use Rattle.dues.specs.Words.{WordAct, taken, passed, refused, in_words, with_items}
-
-pub made-is : (t v : ℕ) → 0 < t → cond (eqb t 0) [] (put t v ∷ []) ≡ put t v ∷ []
-made-is t v h = rw (ne_eqb t 0 (λ e. omega arith)) refl
-
-pub one_more : (n x a b c d : ℕ) → n ≤ 3 → first_of (n + 1) (x ∷ a ∷ b ∷ c ∷ []) ≡ x ∷ first_of n (a ∷ b ∷ c ∷ d ∷ [])
-one_more zero x a b c d h = refl
-one_more (suc zero) x a b c d h = refl
-one_more (suc (suc zero)) x a b c d h = refl
-one_more (suc (suc (suc zero))) x a b c d h = refl
-one_more (suc (suc (suc (suc n)))) x a b c d h = absurd (omega arith)
 
 -- a test that decides between two answers
 pub below-gives : {A : Type 0} (v n : ℕ) (a b r : A) → v < n → r ≡ a → r ≡ cond (ltb v n) a b

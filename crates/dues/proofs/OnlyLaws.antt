@@ -1,5 +1,5 @@
 -- Things due that one kind of token alone takes, by their numbers. Assumes nothing.
-use Prim.Native.Nat.{ℕ, ◌+◌, ◌*◌, ◌<◌}
+use Prim.Native.Nat.{ℕ, ◌+◌, ◌*◌}
 use mathlib.Core.Path.{◌≡◌, ◌∙◌}
 use mathlib.Core.Bool.{cond}
 use mathlib.Core.List.{[], ◌∷◌}
@@ -61,7 +61,3 @@ module _ (k v n t x : ℕ) (r : Deed) where
     row-proc-colon e f h = h ∙ rw (e, f) (decided (eqb k 27) (take (command ∷ node 7 x ∷ []) []))
 
 pub ruleset only-rows = (row-var-name, row-malloc-name, row-proc-name, row-var-semi, row-malloc-open, row-atom-open, row-shut, row-otherwise, row-close, row-close-node, row-becomes, row-proc-colon)
-
--- a tag that is there by its number
-pub tag-there : (n t j : ℕ) → n ≡ j → (n ≡ j → 0 < t) → 0 < t
-tag-there n t j e h = h e

@@ -4,7 +4,7 @@ ghost use Rattle.reading.specs.Items.{put};
 ghost use Rattle.grammar.specs.Grammar.{negated};
 ghost use Rattle.dues.specs.Words.{due_words, made_items, deed_of, taken, refused, NameFits};
 
-use crate::{Deed, Dues, Made};
+use crate::{Deed, Dues, Made, kinds};
 
 // a node comes out
 pub fn made(tag: u32, value: u32) -> Option<Made>
@@ -123,7 +123,7 @@ pub fn named(k: u32, v: u32, a: u32) -> Deed
     requires a_bound { a < 4096 }
     ensures { deed_of result ≡ cond (eqb k 1) (taken ((a + 4096 * v) ∷ []) []) refused }
 {
-    if k == 1 {
+    if k == kinds::NAME {
         return then_one(a + 4096 * v);
     }
     Deed::Refuse

@@ -5,7 +5,7 @@ ghost use Rattle.dues.specs.Words.{deed_of, due_by, done_to, NameFits};
 
 use crate::{
     CLOSE_ATOM, CLOSE_MALLOC, COMMAND, Deed, EXPRESSION, MALLOC_NAME, NODE_FIELD_ASSIGN, NODE_IF,
-    NODE_PROC, NODE_VAR, PROC_COLON, VAR_SEMI, deeds, rows, things,
+    NODE_PROC, NODE_VAR, PROC_COLON, VAR_SEMI, deeds, kinds, rows, things,
 };
 
 // 1 to 7: commands and their beginnings
@@ -19,10 +19,18 @@ pub fn beginning(n: u32, x: u32, k: u32, v: u32) -> Deed
         1 => things::at_command(k, v),
         2 => rows::command_row(k, v),
         3 => deeds::named(k, v, VAR_SEMI),
-        4 => deeds::only(k, 21, deeds::then_two(COMMAND, NODE_VAR + 4096 * x)),
-        5 => deeds::only(k, 17, deeds::then_one(MALLOC_NAME)),
+        4 => deeds::only(
+            k,
+            kinds::SEMICOLON,
+            deeds::then_two(COMMAND, NODE_VAR + 4096 * x),
+        ),
+        5 => deeds::only(k, kinds::OPENING_PARENTHESIS, deeds::then_one(MALLOC_NAME)),
         6 => deeds::named(k, v, CLOSE_MALLOC),
-        _ => deeds::only(k, 17, deeds::then_two(COMMAND, CLOSE_ATOM)),
+        _ => deeds::only(
+            k,
+            kinds::OPENING_PARENTHESIS,
+            deeds::then_two(COMMAND, CLOSE_ATOM),
+        ),
     }
 }
 
@@ -34,10 +42,14 @@ pub fn ending(n: u32, t: u32, x: u32, k: u32) -> Deed
 {
     match n {
         8 => things::at_middle(k),
-        9 => deeds::only(k, 20, deeds::finishes(t, 0)),
-        10 => deeds::only(k, 15, deeds::then_two(COMMAND, NODE_IF)),
-        11 => deeds::only(k, 18, Deed::Take(deeds::none_due(), None)),
-        12 => deeds::only(k, 18, deeds::finishes(t, x)),
+        9 => deeds::only(k, kinds::CLOSING_BRACE, deeds::finishes(t, 0)),
+        10 => deeds::only(k, kinds::ELSE, deeds::then_two(COMMAND, NODE_IF)),
+        11 => deeds::only(
+            k,
+            kinds::CLOSING_PARENTHESIS,
+            Deed::Take(deeds::none_due(), None),
+        ),
+        12 => deeds::only(k, kinds::CLOSING_PARENTHESIS, deeds::finishes(t, x)),
         _ => Deed::Pass(deeds::made(t, x)),
     }
 }
@@ -69,7 +81,11 @@ pub fn selecting(n: u32, k: u32, v: u32) -> Deed
         21 => things::at_first_dot(k, v),
         22 => things::at_first_dotted(k),
         23 => things::at_first_minus(k),
-        24 => deeds::only(k, 24, deeds::then_two(EXPRESSION, NODE_FIELD_ASSIGN)),
+        24 => deeds::only(
+            k,
+            kinds::BECOMES,
+            deeds::then_two(EXPRESSION, NODE_FIELD_ASSIGN),
+        ),
         _ => things::at_expression(k, v),
     }
 }
@@ -88,6 +104,10 @@ pub fn going_on(n: u32, x: u32, k: u32, v: u32) -> Deed
         29 => things::at_sel_minus(k),
         30 => things::at_sel_minus_dot(k, v),
         31 => deeds::named(k, v, PROC_COLON),
-        _ => deeds::only(k, 27, deeds::then_two(COMMAND, NODE_PROC + 4096 * x)),
+        _ => deeds::only(
+            k,
+            kinds::COLON,
+            deeds::then_two(COMMAND, NODE_PROC + 4096 * x),
+        ),
     }
 }

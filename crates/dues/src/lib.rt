@@ -6,6 +6,7 @@ ghost use Rattle.std.specs.Prelude.{◌≤◌};
 
 mod deeds;
 mod groups;
+mod kinds;
 mod rows;
 pub mod stack;
 mod things;

@@ -6,7 +6,7 @@ ghost use Rattle.dues.specs.Words.{due_word, due_words, made_items, deed_of, in_
 use crate::{
     ATOM_OPEN, BODY, CLOSE, CLOSE_CALL, COMMAND, Deed, Dues, EXPRESSION, FIRST, FIRST_DOT,
     FIRST_MINUS, MALLOC_OPEN, MIDDLE, Made, NAME_FIRST, NEGATIVE, NODE_EQUAL, NODE_LESS,
-    NODE_WHILE, OPERAND, OTHERWISE, TEST, TEST_MINUS, VAR_NAME, deeds,
+    NODE_WHILE, OPERAND, OTHERWISE, TEST, TEST_MINUS, VAR_NAME, deeds, kinds,
 };
 
 // a group or an argument, and then these
@@ -25,12 +25,12 @@ pub fn operand_row(k: u32, v: u32, rest: Dues) -> Deed
     ensures { (ds : List Due) → due_words rest ≡ map due_word ds → deed_of result ≡ in_words (row_for k v (operands ds) refuse) }
 {
     match k {
-        1 => deeds::leaf(5, v, rest),
-        2 => deeds::leaf(1, v, rest),
-        3 => deeds::integer(v, rest),
-        4 => Deed::Take(deeds::before(NEGATIVE, rest), None),
-        6 => deeds::leaf(4, 0, rest),
-        17 => opening(rest),
+        kinds::NAME => deeds::leaf(5, v, rest),
+        kinds::FIELD => deeds::leaf(1, v, rest),
+        kinds::NUMBER => deeds::integer(v, rest),
+        kinds::SIGN => Deed::Take(deeds::before(NEGATIVE, rest), None),
+        kinds::NULL => deeds::leaf(4, 0, rest),
+        kinds::OPENING_PARENTHESIS => opening(rest),
         _ => Deed::Refuse,
     }
 }
@@ -42,18 +42,18 @@ pub fn command_row(k: u32, v: u32) -> Deed
     ensures { deed_of result ≡ in_words (row_for k v commands refuse) }
 {
     match k {
-        1 => deeds::then_one(NAME_FIRST + 4096 * v),
-        2 => deeds::leaf(1, v, deeds::one_due(FIRST)),
-        3 => deeds::integer(v, deeds::one_due(FIRST)),
-        6 => deeds::leaf(4, 0, deeds::one_due(FIRST)),
-        10 => deeds::then_one(VAR_NAME),
-        11 => deeds::then_one(MALLOC_OPEN),
-        12 => deeds::finishes(37, 0),
-        13 => deeds::then_two(TEST, NODE_WHILE),
-        14 => deeds::then_two(TEST, OTHERWISE),
-        16 => deeds::then_one(ATOM_OPEN),
-        17 => opening(deeds::one_due(FIRST)),
-        19 => deeds::then_two(COMMAND, MIDDLE),
+        kinds::NAME => deeds::then_one(NAME_FIRST + 4096 * v),
+        kinds::FIELD => deeds::leaf(1, v, deeds::one_due(FIRST)),
+        kinds::NUMBER => deeds::integer(v, deeds::one_due(FIRST)),
+        kinds::NULL => deeds::leaf(4, 0, deeds::one_due(FIRST)),
+        kinds::VAR => deeds::then_one(VAR_NAME),
+        kinds::MALLOC => deeds::then_one(MALLOC_OPEN),
+        kinds::SKIP => deeds::finishes(37, 0),
+        kinds::WHILE => deeds::then_two(TEST, NODE_WHILE),
+        kinds::IF => deeds::then_two(TEST, OTHERWISE),
+        kinds::ATOM => deeds::then_one(ATOM_OPEN),
+        kinds::OPENING_PARENTHESIS => opening(deeds::one_due(FIRST)),
+        kinds::OPENING_BRACE => deeds::then_two(COMMAND, MIDDLE),
         _ => Deed::Refuse,
     }
 }
@@ -64,10 +64,9 @@ pub fn first_row(k: u32, made: Option<Made>) -> Deed
     ensures { (v : ℕ) → deed_of result ≡ with_items (made_items made) (in_words (row_for k v firsts refuse)) }
 {
     match k {
-        4 => Deed::Take(deeds::two_due(OPERAND, FIRST_MINUS), made),
-        5 => Deed::Take(deeds::two_due(OPERAND, FIRST_MINUS), made),
-        17 => Deed::Take(deeds::two_due(EXPRESSION, CLOSE_CALL), made),
-        23 => Deed::Take(deeds::one_due(FIRST_DOT), made),
+        kinds::SIGN | kinds::MINUS => Deed::Take(deeds::two_due(OPERAND, FIRST_MINUS), made),
+        kinds::OPENING_PARENTHESIS => Deed::Take(deeds::two_due(EXPRESSION, CLOSE_CALL), made),
+        kinds::DOT => Deed::Take(deeds::one_due(FIRST_DOT), made),
         _ => Deed::Refuse,
     }
 }
@@ -78,10 +77,9 @@ pub fn side_row(k: u32, made: Option<Made>) -> Deed
     ensures { (v : ℕ) → deed_of result ≡ with_items (made_items made) (in_words (row_for k v sides refuse)) }
 {
     match k {
-        4 => Deed::Take(deeds::two_due(OPERAND, TEST_MINUS), made),
-        5 => Deed::Take(deeds::two_due(OPERAND, TEST_MINUS), made),
-        25 => Deed::Take(deeds::three_due(EXPRESSION, NODE_EQUAL, BODY), made),
-        26 => Deed::Take(deeds::three_due(EXPRESSION, NODE_LESS, BODY), made),
+        kinds::SIGN | kinds::MINUS => Deed::Take(deeds::two_due(OPERAND, TEST_MINUS), made),
+        kinds::EQUALS => Deed::Take(deeds::three_due(EXPRESSION, NODE_EQUAL, BODY), made),
+        kinds::BELOW => Deed::Take(deeds::three_due(EXPRESSION, NODE_LESS, BODY), made),
         _ => Deed::Refuse,
     }
 }

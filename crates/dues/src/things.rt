@@ -8,7 +8,7 @@ use crate::{
     AFTER_MINUS, BECOMES, COMMAND, Deed, EXPRESSION, FIRST, FIRST_DOTTED, FIRST_MINUS, NEGATIVE,
     NODE_ASSIGN, NODE_DIFFERENCE, NODE_FIELD_ASSIGN, NODE_SELECTION, OPERAND, PROC_NAME, SEL,
     SEL_DOT, SEL_MINUS, SEL_MINUS_DOT, SHUT_PARALLEL, SHUT_SEQUENCE, TEST_LEFT, TEST_MINUS, deeds,
-    rows,
+    kinds, rows,
 };
 
 #[tactic(auto, unfolding(reading::specs::Table::row_for, reading::specs::Table::does, crate::specs::Words::due_word))]
@@ -17,7 +17,7 @@ pub fn at_command(k: u32, v: u32) -> Deed
     ensures { deed_of result ≡ in_words (does command k v) }
 {
     match k {
-        4 => deeds::then_two(NEGATIVE, FIRST),
+        kinds::SIGN => deeds::then_two(NEGATIVE, FIRST),
         _ => rows::command_row(k, v),
     }
 }
@@ -27,8 +27,8 @@ pub fn at_middle(k: u32) -> Deed
     ensures { (v : ℕ) → deed_of result ≡ in_words (does middle k v) }
 {
     match k {
-        21 => deeds::then_two(COMMAND, SHUT_SEQUENCE),
-        22 => deeds::then_two(COMMAND, SHUT_PARALLEL),
+        kinds::SEMICOLON => deeds::then_two(COMMAND, SHUT_SEQUENCE),
+        kinds::BARS => deeds::then_two(COMMAND, SHUT_PARALLEL),
         _ => Deed::Refuse,
     }
 }
@@ -38,8 +38,8 @@ pub fn at_test(k: u32, v: u32) -> Deed
     ensures { deed_of result ≡ in_words (does test k v) }
 {
     match k {
-        8 => deeds::leaf(16, 0, deeds::one_due(COMMAND)),
-        9 => deeds::leaf(17, 0, deeds::one_due(COMMAND)),
+        kinds::TRUE => deeds::leaf(16, 0, deeds::one_due(COMMAND)),
+        kinds::FALSE => deeds::leaf(17, 0, deeds::one_due(COMMAND)),
         _ => rows::operand_row(k, v, deeds::one_due(TEST_LEFT)),
     }
 }
@@ -49,7 +49,7 @@ pub fn at_test_left(k: u32) -> Deed
     ensures { (v : ℕ) → deed_of result ≡ in_words (does test_left k v) }
 {
     match k {
-        23 => deeds::then_three(OPERAND, NODE_SELECTION, TEST_LEFT),
+        kinds::DOT => deeds::then_three(OPERAND, NODE_SELECTION, TEST_LEFT),
         _ => rows::side_row(k, None),
     }
 }
@@ -59,7 +59,7 @@ pub fn at_test_minus(k: u32) -> Deed
     ensures { (v : ℕ) → deed_of result ≡ in_words (does test_minus k v) }
 {
     match k {
-        23 => deeds::then_three(OPERAND, NODE_SELECTION, TEST_MINUS),
+        kinds::DOT => deeds::then_three(OPERAND, NODE_SELECTION, TEST_MINUS),
         _ => rows::side_row(k, deeds::made(3, 0)),
     }
 }
@@ -70,7 +70,7 @@ pub fn at_negative(k: u32, v: u32) -> Deed
     ensures { deed_of result ≡ in_words (does negative k v) }
 {
     match k {
-        3 => deeds::negative_integer(v),
+        kinds::NUMBER => deeds::negative_integer(v),
         _ => Deed::Refuse,
     }
 }
@@ -81,7 +81,7 @@ pub fn at_name_first(k: u32, x: u32) -> Deed
     ensures { (v : ℕ) → deed_of result ≡ in_words (does (name_first x) k v) }
 {
     match k {
-        24 => deeds::then_two(EXPRESSION, NODE_ASSIGN + 4096 * x),
+        kinds::BECOMES => deeds::then_two(EXPRESSION, NODE_ASSIGN + 4096 * x),
         _ => rows::first_row(k, deeds::made(5, x)),
     }
 }
@@ -91,7 +91,7 @@ pub fn at_first_dot(k: u32, v: u32) -> Deed
     ensures { deed_of result ≡ in_words (does first_dot k v) }
 {
     match k {
-        7 => deeds::then_two(PROC_NAME, BECOMES),
+        kinds::PROC => deeds::then_two(PROC_NAME, BECOMES),
         _ => rows::operand_row(k, v, deeds::one_due(FIRST_DOTTED)),
     }
 }
@@ -101,7 +101,7 @@ pub fn at_first_dotted(k: u32) -> Deed
     ensures { (v : ℕ) → deed_of result ≡ in_words (does first_dotted k v) }
 {
     match k {
-        24 => deeds::then_two(EXPRESSION, NODE_FIELD_ASSIGN),
+        kinds::BECOMES => deeds::then_two(EXPRESSION, NODE_FIELD_ASSIGN),
         _ => rows::first_row(k, deeds::made(6, 0)),
     }
 }
@@ -111,7 +111,7 @@ pub fn at_first_minus(k: u32) -> Deed
     ensures { (v : ℕ) → deed_of result ≡ in_words (does first_minus k v) }
 {
     match k {
-        23 => deeds::then_three(OPERAND, NODE_SELECTION, FIRST_MINUS),
+        kinds::DOT => deeds::then_three(OPERAND, NODE_SELECTION, FIRST_MINUS),
         _ => rows::first_row(k, deeds::made(3, 0)),
     }
 }
@@ -121,7 +121,7 @@ pub fn at_expression(k: u32, v: u32) -> Deed
     ensures { deed_of result ≡ in_words (does expression k v) }
 {
     match k {
-        7 => deeds::then_one(PROC_NAME),
+        kinds::PROC => deeds::then_one(PROC_NAME),
         _ => rows::operand_row(k, v, deeds::one_due(SEL)),
     }
 }
@@ -131,9 +131,8 @@ pub fn at_sel(k: u32) -> Deed
     ensures { (v : ℕ) → deed_of result ≡ in_words (does sel k v) }
 {
     match k {
-        4 => deeds::then_one(AFTER_MINUS),
-        5 => deeds::then_one(AFTER_MINUS),
-        23 => deeds::then_one(SEL_DOT),
+        kinds::SIGN | kinds::MINUS => deeds::then_one(AFTER_MINUS),
+        kinds::DOT => deeds::then_one(SEL_DOT),
         _ => Deed::Pass(None),
     }
 }
@@ -143,7 +142,7 @@ pub fn at_sel_dot(k: u32, v: u32) -> Deed
     ensures { deed_of result ≡ in_words (does sel_dot k v) }
 {
     match k {
-        7 => deeds::then_two(PROC_NAME, NODE_SELECTION),
+        kinds::PROC => deeds::then_two(PROC_NAME, NODE_SELECTION),
         _ => rows::operand_row(k, v, deeds::two_due(NODE_SELECTION, SEL)),
     }
 }
@@ -153,7 +152,7 @@ pub fn at_after_minus(k: u32, v: u32) -> Deed
     ensures { deed_of result ≡ in_words (does after_minus k v) }
 {
     match k {
-        7 => deeds::then_two(PROC_NAME, NODE_DIFFERENCE),
+        kinds::PROC => deeds::then_two(PROC_NAME, NODE_DIFFERENCE),
         _ => rows::operand_row(k, v, deeds::one_due(SEL_MINUS)),
     }
 }
@@ -163,9 +162,8 @@ pub fn at_sel_minus(k: u32) -> Deed
     ensures { (v : ℕ) → deed_of result ≡ in_words (does sel_minus k v) }
 {
     match k {
-        4 => Deed::Take(deeds::one_due(AFTER_MINUS), deeds::made(3, 0)),
-        5 => Deed::Take(deeds::one_due(AFTER_MINUS), deeds::made(3, 0)),
-        23 => deeds::then_one(SEL_MINUS_DOT),
+        kinds::SIGN | kinds::MINUS => Deed::Take(deeds::one_due(AFTER_MINUS), deeds::made(3, 0)),
+        kinds::DOT => deeds::then_one(SEL_MINUS_DOT),
         _ => Deed::Pass(deeds::made(3, 0)),
     }
 }
@@ -175,7 +173,7 @@ pub fn at_sel_minus_dot(k: u32, v: u32) -> Deed
     ensures { deed_of result ≡ in_words (does sel_minus_dot k v) }
 {
     match k {
-        7 => deeds::then_three(PROC_NAME, NODE_SELECTION, NODE_DIFFERENCE),
+        kinds::PROC => deeds::then_three(PROC_NAME, NODE_SELECTION, NODE_DIFFERENCE),
         _ => rows::operand_row(k, v, deeds::two_due(NODE_SELECTION, SEL_MINUS)),
     }
 }

@@ -13,10 +13,7 @@ use crate::wrong::Wrong;
 use dues::{Deed, Dues, Made, stack};
 use fieldlist::FieldRows;
 use fieldlist::names::Span;
-use letters::places::Place;
-
-// the kind of a byte that begins no piece
-const BAD_BYTE: u32 = 29;
+use letters::places::{BAD_BYTE, Place};
 
 /// A token that is taken: the place in the stack of what takes it, what is due instead, the node that comes out, and whether it is a name that is new.
 #[derive(Clone, Copy)]

@@ -13,6 +13,13 @@ use fieldlist::names::{Span, name_index};
 use fieldlist::{FieldRows, index_of};
 use letters::numbers::number_of;
 use letters::places::Place;
+use letters::token::Token;
+
+const NAME: u32 = Token::Name as u32;
+
+const FIELD: u32 = Token::Field as u32;
+
+const NUMBER: u32 = Token::Number as u32;
 
 const MOST_NAMES: usize = 128;
 
@@ -81,9 +88,9 @@ pub fn worth_of(
 {
     let word = &text[place.from..place.to];
     match place.kind {
-        1 => of_name(name_index(text, names, word), names.len()),
-        2 => of_field(index_of(list, rows, word)),
-        3 => of_number(number_of(text, place.from, place.to)),
+        NAME => of_name(name_index(text, names, word), names.len()),
+        FIELD => of_field(index_of(list, rows, word)),
+        NUMBER => of_number(number_of(text, place.from, place.to)),
         _ => Ok(Worth::Known(0)),
     }
 }
