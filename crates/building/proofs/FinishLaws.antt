@@ -38,11 +38,6 @@ granted : (b : Bool) → not b ≡ false → b ≡ true
 granted true e = refl
 granted false e = sym e
 
-pub not_there : (depth : ℕ) (ws : List ℕ) (s : Nodes) (b : Bool) → AllPass b depth ws → not b ≡ true → EndSaysAll depth ws (Err Early) s s
-not_there depth ws s b h n =
-    let g = subst (λ (x : Bool). AllPass x depth ws) (denied b n) h in
-    record { says = λ ds is st _. g ds st is; same = refl }
-
 pub there : (depth : ℕ) (ws : List ℕ) (b : Bool) → AllPass b depth ws → not b ≡ false → AllPass true depth ws
 there depth ws b h n = subst (λ (x : Bool). AllPass x depth ws) (granted b n) h
 
@@ -111,9 +106,6 @@ pub record Narrowed (codes words : List ℕ) (i : ℕ) : Type 0 where
   pub long : length words ≡ 16
   pub same : take i words ≡ take i (map (λ c. c % 65536) codes)
 
-pub none-narrowed : (codes words : List ℕ) (i : ℕ) → length words ≡ 16 → i ≡ 0 → Narrowed codes words i
-none-narrowed codes words i l e = record { so_far = omega arith; long = l; same = rw e }
-
 pub one-narrowed : (codes words : List ℕ) (i : ℕ) → length codes ≡ 16 → Narrowed codes words i → i < 16
     → Narrowed codes (set words i (get_or codes i 0 % 65536)) (i + 1)
 one-narrowed codes words i k n h =
@@ -131,13 +123,6 @@ one-narrowed codes words i k n h =
           ∙ ap (λ (x : ℕ). take i (map low codes) ++ (x ∷ [])) (sym (get_or-map low codes i 0))
           ∙ sym (take-suc (map low codes) i 0 (omega arith)));
     }
-
-pub all-narrowed : (codes words : List ℕ) (i : ℕ) → length codes ≡ 16 → Narrowed codes words i → 16 ≤ i → words ≡ map (λ c. c % 65536) codes
-all-narrowed codes words i k n h =
-    let low : ℕ → ℕ = λ c. c % 65536 in
-    let l = n.long in
-    let m = length-map codes low in
-    sym (take_all i words (omega arith)) ∙ n.same ∙ take_all i (map low codes) (omega arith)
 
 -- ---- the image goes out
 

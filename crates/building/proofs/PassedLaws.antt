@@ -86,11 +86,6 @@ pub small-tag : (w kind : ℕ) (r : Deed) (x : Answered Made) → WordPasses w k
 small-tag w kind r x p h e =
     small-made x (subst SmallTag (sym (its-node w kind r x h e p.due p.fits p.is p.passes)) (small-passing p.due p.fits))
 
-pub node-put : (w kind : ℕ) (r : Deed) (x : Answered Made) (s t : Nodes) → Learns w kind r → r ≡ Pass x
-    → Grows (made_items x) s t
-    → (d : Due) → DueFits d → w ≡ due_word d → does d kind 0 ≡ pass (passing d) → Grows (passing d) s t
-node-put w kind r x s t h e a d f i p = subst (λ (js : List Item). Grows js s t) (its-node w kind r x h e d f i p) a
-
 -- ---- the loop: the nodes of those on top are put, and i things due are left of the whole stack
 
 -- how those that are passed fall into two
@@ -169,10 +164,6 @@ next-passes work depth floor kind (suc j) s t p k l =
     let q = met_at work depth floor kind j s t p.above p.left p.stacked p.count p.passes (k.sinks p.above p.left p.stacked p.count p.passes) l in
     rw e (record { due = q.due; fits = q.fits; is = q.word; passes = q.passes })
 
-pub next-in-work : (work : List ℕ) (depth floor kind i : ℕ) (s t : Nodes) → Passed work depth floor kind
-    → Sunk work depth floor kind i s t → floor < i → i - 1 < length work
-next-in-work work depth floor kind i s t p k l = omega (arith, p.stacked.inside, k.inside)
-
 items_more : (done : List Due) (d : Due) → passed_items (done ++ (d ∷ [])) ≡ passed_items done ++ passing d
 unfolding passed_items
 items_more [] d = append-nil (passing d)
@@ -208,14 +199,6 @@ none-behind : (done rest above : List Due) (floor i : ℕ) → above ≡ done ++
 none-behind done [] above floor i e c l = sym (e ∙ append-nil done)
 none-behind done (d ∷ rest) above floor i e c l = absurd (omega (arith, c))
 
-pub all-sunk : (work : List ℕ) (depth floor kind i : ℕ) (s t : Nodes)
-    → Sunk work depth floor kind i s t → i ≤ floor
-    → (above left : List Due) → Stacked (above ++ left) depth work → length left ≡ floor → PassesAll above kind
-    → Grows (passed_items above) s t
-all-sunk work depth floor kind i s t k l above left h c p =
-    let n = k.sinks above left h c p in
-    subst (λ (ds : List Due). Grows (passed_items ds) s t) (none-behind n.done n.rest above floor i n.split n.count l) n.grows
-
 -- ---- an answer that passes nothing
 
 abbrev pub Stops : Deed → Type 0
@@ -225,10 +208,6 @@ not-passed : (r : Deed) (is : List Item) → Stops r → deed_of r ≡ passed is
 not-passed (Take v m) is h e = let z : ◌≡◌ {A = ℕ} 1 0 = cc in omega arith
 not-passed (Pass m) is h e = h m refl
 not-passed Refuse is h e = let z : ◌≡◌ {A = ℕ} 1 0 = cc in omega arith
-
--- so it isn't given where a thing due is passed
-pub never-stops : (w kind : ℕ) (r : Deed) → WordPasses w kind → Learns w kind r → Stops r → ⊥
-never-stops w kind r p h s = not-passed r (passing p.due) s (h p.due p.fits p.is ∙ ap in_words p.passes)
 
 -- ---- the end of a text
 
@@ -263,8 +242,3 @@ may-not-end work depth (suc j) r l p h o ds s is =
     ap (λ (es : List Due). finish es is) a.split
     ∙ finish-above a.above (a.top ∷ a.left) is a.passes
     ∙ no_end r (does a.top 0 0) (is ++ passed_items a.above) (λ js. finish a.left js) o (h a.top a.fits (rw n a.word))
-
-pub may-end : (work : List ℕ) (depth i : ℕ) → Looked work depth 0 i → i ≤ 0 → (ds : List Due) → Stacked ds depth work → EndSays ds true
-may-end work depth i l z ds s =
-    let r = l.reaches ds s in
-    subst (λ (es : List Due). PassesAll es 0) (none-behind r.above r.left ds 0 i r.split (omega (arith, r.count)) z) r.passes

@@ -27,15 +27,6 @@ use Rattle.reader.proofs.CodeLaws.{narrow-codes}
 
 -- ---- lengths
 
-pub under-four : (w b : ℕ) → w < 4 → true ≡ ltb w (words_for b)
-under-four w b h = sym (lt-ltb w (words_for b) (omega arith))
-
-pub third-below : (w b : ℕ) → 4 ≤ w → (w - 4) / 3 < b → true ≡ ltb w (words_for b)
-third-below w b h l = sym (lt-ltb w (words_for b) (omega arith))
-
-pub third-enough : (w b : ℕ) → 4 ≤ w → b ≤ (w - 4) / 3 → false ≡ ltb w (words_for b)
-third-enough w b h l = sym (le-ltb w (words_for b) (omega arith))
-
 -- the test, told
 pub few-lent : (w b : ℕ) (r : Bool) → r ≡ ltb w (words_for b) → r ≡ true → w < words_for b
 few-lent w b r e t = ltb-true w (words_for b) (sym e ∙ t)
@@ -82,9 +73,6 @@ module _
     (past : drop (words_for (length text)) ws₁ ≡ drop (words_for (length text)) ws)
     (c : ws' ≡ replicate (words_for (length text)) 0 ++ drop (words_for (length text)) ws₂)
   where
-    pub withheld : (e : ReadError) → Tells list text rows start ws₁ (Err e) t ws₂ → Withheld list text rows e.number e.line ws out ws' out
-    withheld e h = record { refused = h.finds; output = refl; words = clears text ws ws₁ ws₂ ws' past h.lasting c }
-
     pub handed : (n : ℕ) (codes out' : List ℕ) (u : Unit {0})
         → Tells list text rows start ws₁ (Ok u) t ws₂
         → t.nodes.start ≡ start

@@ -40,44 +40,6 @@ pub record Asking (ws : List ℕ) (depth n : ℕ) (could : List Bool) : Type 0 w
   pub long : length could ≡ 29
   pub says : (ds : List Due) → Stacked ds depth ws → Asked ds n could
 
-pub end-asked : (ws : List ℕ) (depth : ℕ) (could : List Bool)
-    → length could ≡ 29 → ((ds : List Due) → Stacked ds depth ws → EndSays ds (get_or could 0 false)) → Asking ws depth 1 could
-end-asked ws depth could l e =
-    record {
-      some-asked = omega arith;
-      at_most = omega arith;
-      long = l;
-      says = λ ds s. record { long = l; ends = e ds s; kinds = λ k p q. absurd (omega arith) };
-    }
-
-pub one-asked : (ws : List ℕ) (depth n : ℕ) (could : List Bool) (b : Bool)
-    → Asking ws depth n could → n < 29 → ((ds : List Due) → Stacked ds depth ws → KindSays ds n b) → Asking ws depth (n + 1) (set could n b)
-one-asked ws depth n could b a h t =
-    let l : length (set could n b) ≡ 29 = length-set could n b ∙ a.long in
-    record {
-      some-asked = omega arith;
-      at_most = omega arith;
-      long = l;
-      says = λ ds s.
-          record {
-            long = l;
-            ends = subst (EndSays ds) (sym (get_or-set_other could n 0 b false (λ e. omega (arith, a.some-asked, e)))) (a.says ds s).ends;
-            kinds = λ k p q. kind ds s k p q (ℕ_discrete k n);
-          };
-    }
-  where
-    kind : (ds : List Due) → Stacked ds depth ws → (k : ℕ) → 0 < k → k < n + 1 → Dec (k ≡ n) → KindSays ds k (get_or (set could n b) k false)
-    kind ds s k p q (yes e) =
-        let there : get_or (set could n b) n false ≡ b = get_or-set_same could n b false (omega (arith, a.long)) in
-        subst (λ (j : ℕ). KindSays ds j (get_or (set could n b) j false)) (sym e) (subst (KindSays ds n) (sym there) (t ds s))
-    kind ds s k p q (no d) =
-        subst (KindSays ds k) (sym (get_or-set_other could n k b false d)) ((a.says ds s).kinds k p (omega (arith, d)))
-
-pub all_asked : (ws : List ℕ) (depth n : ℕ) (could : List Bool) → Asking ws depth n could → 29 ≤ n → (ds : List Due) → Stacked ds depth ws → Asked ds 29 could
-all_asked ws depth n could a h ds s =
-    let e : n ≡ 29 = omega (arith, a.at_most) in
-    subst (λ (j : ℕ). Asked ds j could) e (a.says ds s)
-
 -- ---- what they say of the text
 
 module _ {fields : List Entry} {text : List ℕ} {at line : ℕ} {names : List (List ℕ)} {ds : List Due} {is : List Item} (g : Progress fields text at line names ds is) where

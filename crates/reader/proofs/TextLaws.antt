@@ -95,9 +95,6 @@ module _
     {list text : List ℕ} {rows : FieldRows} {at line n depth start m : ℕ} {ws₀ ws img firsts : List ℕ} {spans : List Span}
     (u : Under list text rows at line n depth start m spans ws₀ ws img firsts)
   where
-    pub under-stands : Standing depth ws
-    under-stands = record { dues = u.dues; stacked = u.stacked }
-
     pub faced : (p : Place) → NextSays text at line p → (p.kind ≡ 0 → ⊥) → Facing list text rows p at line n depth start m spans ws₀ ws img firsts
     faced p s h = record { under = u; next = s; found = s.found h; lines = next-lines text at line p u.inside s h }
 

@@ -69,9 +69,6 @@ module _
     (list text : List ℕ) (rows : FieldRows) (start : ℕ) (r : Result Unit ReadError) (t : Reading) (ws ws₁ ws₂ ws' : List ℕ) (could : List Bool)
     (h : Tells list text rows start ws₁ r t ws₂)
   where
-    pub end-stands : Standing t.depth ws₂
-    end-stands = record { dues = h.stopped.dues; stacked = h.stopped.stacked }
-
     answers : (q : Result Unit ReadError) → Tells list text rows start ws₁ q t ws₂ → Answers (why_of q t.place could).why (entries_of list rows) text (why_of q t.place could).line
     answers (Ok u) k = record { img = _; read = k.finds.read; last = k.stopped.last }
     answers (Err e) k = go e.number refl k.finds

@@ -21,15 +21,6 @@ use Rattle.grammar.specs.Nodes.{words}
 use Rattle.reading.specs.Links.{word_by, back, linked_by, linked, first_by, first_of}
 use Rattle.tables.specs.Puts.{Falling, Joined, Puts}
 
-pub child-word : (p : Role) (k : Kind) (v e r : ℕ) → p ≡ Child k → r ≡ e - 1 → e < 65536 → (r ≡ word_by p v e) × (r < 65536)
-child-word p k v e r h i l = (rw h i, omega arith)
-
-pub child-back : (firsts : List ℕ) (p : Role) (k : Kind) (e r : ℕ) → p ≡ Child k → r ≡ get_or firsts (e - 1) 0 → r ≤ e → (r ≡ back firsts p e) × (r ≤ e)
-child-back firsts p k e r h i l = (rw h i, l)
-
-pub first-low : (firsts : List ℕ) (e i r : ℕ) → Falling firsts → i ≡ e - 1 → r ≡ get_or firsts i 0 → (r ≡ get_or firsts (e - 1) 0) × (r ≤ e)
-first-low firsts e i r f h d = (d ∙ rw h, rw (d, h) (let l = f.falls (e - 1) in omega arith))
-
 -- ---- a node by its row
 
 pub by_row : (m tag value : ℕ) (firsts : List ℕ) (w : Row) (a b c e f first : ℕ)
@@ -61,10 +52,6 @@ unfolding linked_by first_by words
 no_row m tag value firsts o r h e =
     let z : o ≡ none = sym e ∙ ap math_option h in
     record { node = rw z; starts = rw z; low = omega arith; small-a = omega arith; small_b = omega arith; small-c = omega arith }
-
-pub its-row : (m tag value : ℕ) (firsts : List ℕ) (o : Option Row) (r : Answered Row) (w : Row) (x : Node) (first : ℕ) → r ≡ Some w → math_option r ≡ o
-    → Joined m tag value firsts (some w) x first → Joined m tag value firsts o x first
-its-row m tag value firsts o r w x first h e j = let z : some w ≡ o = sym (ap math_option h) ∙ e in rw (← z) j
 
 -- ---- written
 
