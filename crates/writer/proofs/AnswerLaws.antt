@@ -1,5 +1,5 @@
 -- The answer, path by path. Assumes nothing.
-use Prim.Native.Nat.{ℕ, zero, suc, ◌+◌, ◌<◌, ◌≤◌}
+use Prim.Native.Nat.{ℕ, zero, suc, ◌<◌, ◌≤◌}
 use mathlib.Core.Path.{◌≡◌, refl, sym, ap, subst, ◌∙◌}
 use mathlib.Core.Bool.{Bool, true, false, ◌&&◌}
 use mathlib.Core.List.{List, [], ◌∷◌, map}
@@ -9,13 +9,11 @@ use lib.ListN.{length, get_or}
 use Rattle.laws.specs.Bools.{and_both, TrueIff}
 use Rattle.laws.specs.UpTo.{up_to}
 use Rattle.rules.specs.Image.{most_fields, fields_of}
-use Rattle.rules.specs.State.{size}
 use Rattle.rules.specs.Scope.{Names, has}
 use Rattle.rules.specs.Refusals.{check}
-use Rattle.rules.specs.declared.Verdict.{Verdict}
-use Rattle.rules.specs.declared.Verdict.TheVariants.{Accepted, Refused as RefusedBy}
-use Rattle.rules.proofs.GoodFacts.{Good}
-use Rattle.rules.proofs.Good.{good}
+use Rattle.image.specs.declared.refusals.Refusal.{Refusal}
+use Rattle.image.specs.Refusals.{verdict_of}
+use Rattle.rules.specs.declared.Verdict.TheVariants.{Accepted}
 use Rattle.checklaws.specs.Bits.{bit, Shows}
 use Rattle.grammar.specs.FieldList.{entry, word_of}
 use Rattle.writing.specs.Spell.{made_up_field}
@@ -47,7 +45,7 @@ all-at f (suc n) x e l =
     let b = and_both (f n) (all f n) e in
     elim (ℕ_discrete x n) [ yes i ↦ rw i b.0 | no k ↦ all-at f n x b.1 (omega arith) ]
 
-all-bits : all (λ x. bit 18446744073709551615 x) 64 ≡ true
+all-bits : all (λ x. bit 340282366920938463463374607431768211455 x) 128 ≡ true
 unfolding all bit
 all-bits = refl
 
@@ -58,12 +56,8 @@ all-names = refl
 pub sees-every : (x : ℕ) → x < 128 → has x every_name ≡ true
 sees-every x l = all-at _ 128 x all-names l
 
-pub shows-every : Shows 18446744073709551615 18446744073709551615 every_name
-shows-every =
-    record {
-      low = λ x l. all-at _ 64 x all-bits l ∙ sym (sees-every x (omega arith));
-      high = λ x l. all-at _ 64 x all-bits l ∙ sym (sees-every (64 + x) (omega arith));
-    }
+pub shows-every : Shows 340282366920938463463374607431768211455 every_name
+shows-every = record { shows = λ x l. all-at _ 128 x all-bits l ∙ sym (sees-every x l) }
 
 -- ---- the answer with these words
 
@@ -130,12 +124,9 @@ module _ (list : List ℕ) (o : Result FieldRows BadRow) (a : fieldlist.Answers 
 
 -- ---- the check
 
-module _ (img : List ℕ) (v : Verdict) (s : (visible : Names) → Shows 18446744073709551615 18446744073709551615 visible → v ≡ check visible 5378 img) where
-  pub checked : v ≡ Accepted → Good img
-  checked e = good every_name size img (sym (s every_name shows-every) ∙ e)
+module _ (img : List ℕ) (o : Result (List ℕ) Refusal) (s : (visible : Names) → Shows 340282366920938463463374607431768211455 visible → verdict_of o ≡ check visible 5378 img) where
+  pub refused_image : (list d : List ℕ) (r : Refusal) → o ≡ Err r → Answers img list d (Err BadImage) d
+  refused_image list d r e = bad-image (sym (s every_name shows-every) ∙ ap verdict_of e)
 
-  pub refused_image : (list d : List ℕ) (k p : ℕ) → v ≡ RefusedBy k p → Answers img list d (Err BadImage) d
-  refused_image list d k p e = bad-image (sym (s every_name shows-every) ∙ e)
-
-  pub accepted_image : (list d o : List ℕ) (t : Result ℕ WriteError) → v ≡ Accepted → FieldsSay img list d t o → Answers img list d t o
-  accepted_image list d o t e f = f.says (sym (s every_name shows-every) ∙ e)
+  pub accepted_image : (script list d e : List ℕ) (t : Result ℕ WriteError) → o ≡ Ok script → script ≡ img → FieldsSay script list d t e → Answers img list d t e
+  accepted_image script list d e t i h f = (subst (λ b. FieldsSay b list d t e) h f).says (sym (s every_name shows-every) ∙ ap verdict_of i)

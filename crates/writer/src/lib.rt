@@ -12,8 +12,7 @@ ghost use Rattle.std.specs.Prelude.{◌≡◌};
 ghost use Rattle.writer.specs.Answer.{Answers, number_of};
 
 use crate::fields::write_listed;
-use image::Script;
-use rules::{SIZE, Verdict};
+use rules::SIZE;
 
 /// Why an image is not written, in the order in which the reasons are looked for.
 #[derive(Clone, Copy, Debug, PartialEq, Eq)]
@@ -42,19 +41,13 @@ impl WriteError {
     }
 }
 
-// Each of 64 names is visible.
-const EVERY: u64 = u64::MAX;
-
-/// The image's tree as text, in the first bytes of `out`, and how many they are; an error leaves `out` as it is.
-#[tactic(auto, using(crate::proofs::AnswerLaws::checked, crate::proofs::Cited::write_lemmas))]
+/// The image's tree as text, in the first bytes of `out`, and how many they are; an error leaves `out` as it is. Every name is visible.
+#[tactic(auto, using(crate::proofs::Cited::write_lemmas))]
 pub fn write(img: &[u8], list: &[u8], out: &mut [u8]) -> Result<usize, WriteError>
     ensures { Answers img.now list.now out.old result out.new }
 {
-    match checker::check(img, SIZE, EVERY, EVERY) {
-        Verdict::Refused(_, _) => Err(WriteError::BadImage),
-        Verdict::Accepted => {
-            let script = Script::new(img);
-            write_listed(&script, list, out)
-        }
-    }
+    let Ok(script) = checker::check(img, SIZE, u128::MAX) else {
+        return Err(WriteError::BadImage);
+    };
+    write_listed(&script, list, out)
 }

@@ -2,5 +2,5 @@
 use Rattle.writer.proofs.AnswerLaws.{refused_image}
 use Rattle.writer.proofs.write.Goals as goal
 
-pub returns-in-Refused : goal.returns-in-Refused
-returns-in-Refused c = refused_image _ _ c.check.ensures _ _ _ _ c.in-Refused.is
+pub returns-in_default : goal.returns-in_default
+returns-in_default c = refused_image _ _ c.check.ensures.says _ _ _ c.in_default.is
