@@ -1,4 +1,5 @@
 // The kinds of tokens, by the numbers that the grammar gives them; 0 is no token.
+// Numbers and no enum, since the grammar's definitions count the kinds, and a gap is told by the number of the last one.
 pub const NONE: u32 = 0;
 
 pub const NAME: u32 = 1;

@@ -67,6 +67,7 @@ pub fn node_end(script: &Script<'_>, ends: &[Edges], n: usize) -> Edges
     ensures { result ≡ ends_of (tree_at (node_at script.now) n) }
 {
     let x = script.image.read(n);
+    // on the number, as the table of tags has it
     match x.tag {
         // integer: from 2^31 on it is written with a sign
         2 => Edges {

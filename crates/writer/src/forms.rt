@@ -70,6 +70,7 @@ const EMPTY: Form = Form {
 };
 
 /// The form of a node of this tag. An integer has none: it is one token or two, by its value.
+// A match on the number, as the table of tags has it.
 #[tactic(auto, using(crate::proofs::FormLaws::absent), unfolding(crate::specs::Forms::form_of, crate::specs::Forms::form_in, crate::specs::Forms::forms))]
 pub fn form_of(tag: usize) -> Form
     ensures { result ≡ form_of tag }
@@ -82,7 +83,7 @@ pub fn form_of(tag: usize) -> Form
         },
         // difference
         3 => Form {
-            a: How::Left,
+            a: How::Left, // of the minus
             third: Some(MINUS),
             b: How::Right,
             ..EMPTY
