@@ -1,30 +1,10 @@
-// The reader of written scripts for programs in C and Rust, as lib.rt has the interpreter: a wrapper with its answer as numbers.
+//! The reader of written scripts for programs in C and Rust, as lib.rt has the interpreter: a wrapper with its answer as numbers.
 ghost use Rattle.std.specs.Prelude.{◌≡◌};
-ghost use Rattle.told.specs.Written.{written_of, TellsReading, words_asked};
+ghost use Rattle.told.specs.Written.{TellsReading, words_asked};
 
-use reader::Reading;
 use told::Written;
 
-fn tell_reading(a: Reading) -> Written
-    ensures { result ≡ written_of a }
-{
-    match a {
-        Reading::Image(n) => Written {
-            verdict: 1,
-            number: 0,
-            line: 0,
-            length: n,
-        },
-        Reading::Refused(k, l) => Written {
-            verdict: 2,
-            number: k,
-            line: l,
-            length: 0,
-        },
-    }
-}
-
-// The words that the reader is lent for a text of so many bytes; the largest number where they are more than that.
+/// The words that the reader is lent for a text of so many bytes; the largest number where they are more than that.
 #[unsafe(no_mangle)]
 pub extern "C" fn flagcopper_read_words(text_bytes: usize) -> usize
     ensures { result ≡ words_asked text_bytes }
@@ -35,7 +15,7 @@ pub extern "C" fn flagcopper_read_words(text_bytes: usize) -> usize
     usize::MAX
 }
 
-// A written script: its image in `out`, or the first mistake.
+/// A written script: its image in `out`, or the first mistake.
 #[unsafe(no_mangle)]
 pub extern "C" fn flagcopper_read(
     text: &[u8],
@@ -45,5 +25,5 @@ pub extern "C" fn flagcopper_read(
 ) -> Written
     ensures { TellsReading list.now text.now result work.old out.old work.new out.new }
 {
-    tell_reading(reader::read(text, list, work, out))
+    Written::from(reader::read(text, list, work, out))
 }

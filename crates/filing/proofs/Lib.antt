@@ -1,3 +1,2 @@
-pub mod GivenLaws
 pub mod NameLaws
 pub mod Cases

@@ -5,16 +5,13 @@ use mathlib.Core.List.{List}
 use native.Mathlib.Omega.{arith}
 use lib.ListN.{length}
 use Rattle.text.specs.Ascii.{ascii}
-use Rattle.text.specs.Written.{Wrote, Line}
-use Rattle.text.proofs.WroteLaws.{both-wrote, wrote_as}
-use Rattle.text.proofs.LineLaws.{line_of}
+use Rattle.text.specs.declared.Page.{Page}
+use Rattle.text.specs.Written.{Adds}
+use Rattle.text.proofs.WroteLaws.{both-adds, adds_as}
 use Rattle.filing.specs.Names.{most_name, most_part_name, part_name}
 
-pub part-wrote : (q r : ℕ) (name d e o : List ℕ) → length name ≤ most_name → most_part_name ≤ length d → Wrote (length name) d 0 name q e → Wrote 5 e q (ascii ".part") r o
-    → Line most_part_name (part_name name) d r o
+pub part-adds : (name : List ℕ) (p q r : Page) → length name ≤ most_name → Adds (length name) p name q → Adds 5 q (ascii ".part") r
+    → Adds most_part_name p (part_name name) r
 unfolding part_name
-part-wrote q r name d e o h l v w =
-    line_of 4101 r (part_name name) d o
-    (wrote_as (length name + 5) 4101 0 r (part_name name) (part_name name) d o
-    (both-wrote (length name) 5 0 q r name (ascii ".part") d e o v w) refl (omega arith))
-    l
+part-adds name p q r h v w =
+    adds_as (length name + 5) 4101 p r (part_name name) (part_name name) (both-adds (length name) 5 p q r name (ascii ".part") v w) refl (omega arith)

@@ -1,11 +1,11 @@
-// What the programs share: their arguments, files that are read, and one that is made, under a name of its own, which takes its place whole, or
-// nothing is changed; lines printed, and complaints. What is read and what is written can't be stated with the library (docs/DECISIONS.md 5.5): of
-// the name under which a file is made there is a contract, of what is read a bound, the rest is run and compared.
+//! What the programs share: their arguments, files that are read, and one that is made, under a name of its own, which takes its place whole, or
+//! nothing is changed; lines printed, and complaints. What is read and what is written can't be stated with the library (docs/DECISIONS.md 5.5): of
+//! the name under which a file is made there is a contract, of what is read a bound, the rest is run and compared.
 #![tactic(auto)]
 
 ghost use Rattle.std.specs.Prelude.{◌≤◌, length};
 ghost use Rattle.io.specs.Counts.{IsPrefixLen};
-ghost use Rattle.text.specs.Written.{Line};
+ghost use Rattle.text.specs.Written.{HasRoom, Adds};
 ghost use Rattle.filing.specs.Names.{most_name, most_part_name, part_name};
 
 use std::env::FillError;
@@ -14,17 +14,18 @@ use std::io::{Cursor, Read, Write};
 use std::rt::{Env, Files};
 use std::str::from_utf8;
 use std::{fs, io};
-use text::put_text;
+use text::Page;
 
-// Room for a name of 4,096 bytes with `.part` behind it.
-const MOST_PART_NAME: usize = 4101;
+/// The bytes of the longest name that an argument can be.
+pub const MOST_NAME: usize = 4096;
 
-// The file of this name, open to be read. One that can't be opened is none; so is one whose name isn't UTF-8, since the library takes text for a path.
+// Room for a name of so many bytes with `.part` behind it.
+const MOST_PART_NAME: usize = MOST_NAME + 5;
+
+/// The file of this name, open to be read. One that can't be opened is none; so is one whose name isn't UTF-8, since the library takes text for a path.
 pub fn open_read<R: Files>(rt: &R, name: &[u8]) -> Option<R::File> {
-    match from_utf8(name) {
-        Ok(path) => fs::open(rt, path).ok(),
-        Err(_) => None,
-    }
+    let path = from_utf8(name).ok()?;
+    fs::open(rt, path).ok()
 }
 
 // The same as `read_full`, of a file that is there.
@@ -34,15 +35,14 @@ fn read_into<F: Read>(file: &mut F, buf: &mut [u8]) -> usize
     let mut done = 0;
     while done < buf.len() {
         match file.read(&mut buf[done..]) {
-            Ok(0) => break,
+            Ok(0) | Err(_) => break,
             Ok(n) => done += n,
-            Err(_) => break,
         }
     }
     done
 }
 
-// Reads until `buf` is full, the file ends or a read fails: how many bytes stand at the start of `buf`, none of a file that is none.
+/// Reads until `buf` is full, the file ends or a read fails: how many bytes stand at the start of `buf`, none of a file that is none.
 pub fn read_full<F: Read>(file: &mut Option<F>, buf: &mut [u8]) -> usize
     ensures { IsPrefixLen result buf.new }
 {
@@ -54,18 +54,14 @@ pub fn read_full<F: Read>(file: &mut Option<F>, buf: &mut [u8]) -> usize
 
 // Whether nothing stands behind what was read; where the read fails, that isn't known.
 fn is_at_end<F: Read>(file: &mut F) -> bool {
-    let mut byte = [0u8; 1];
-    match file.read(&mut byte) {
-        Ok(n) => n == 0,
-        Err(_) => false,
-    }
+    matches!(file.read(&mut [0u8; 1]), Ok(0))
 }
 
-// Whether a file was read to its end, or as far as there is room for it; one that can't be opened or read (a folder, say) is none, and not an empty one.
+/// Whether a file was read to its end, or as far as there is room for it; one that can't be opened or read (a folder, say) is none, and not an empty one.
 pub fn is_read<F: Read>(file: &mut Option<F>, count: usize, room: usize) -> bool {
     match file {
-        None => false,
         Some(f) => count == room || is_at_end(f),
+        None => false,
     }
 }
 
@@ -89,50 +85,61 @@ fn put_whole<F: Write + OpenFile>(file: &mut F, bytes: &[u8]) -> io::Result<()> 
 }
 
 // A file of this name with these bytes; where that fails, none.
-fn write_part<R: Files + Eprint>(rt: &R, part: &str, bytes: &[u8]) -> bool {
-    let mut file = match OpenOptions::new()
+fn write_part<R: Files>(rt: &R, part: &str, bytes: &[u8]) -> io::Result<()> {
+    let mut file = OpenOptions::new()
         .write(true)
         .create_new(true)
-        .open(rt, part)
-    {
-        Ok(file) => file,
-        Err(e) => {
-            fail(rt, part, &e);
-            return false;
-        }
-    };
-    if let Err(e) = put_whole(&mut file, bytes) {
-        fail(rt, part, &e);
-        drop(file);
+        .open(rt, part)?;
+    let written = put_whole(&mut file, bytes);
+    drop(file);
+    if written.is_err() {
         let _ = fs::remove_file(rt, part);
-        return false;
     }
-    true
+    written
 }
 
 // It takes its name; where that fails, it goes again.
-fn take_name<R: Files + Eprint>(rt: &R, part: &str, name: &str) -> bool {
-    if let Err(e) = fs::rename(rt, part, name) {
-        fail(rt, name, &e);
+fn take_name<R: Files>(rt: &R, part: &str, name: &str) -> io::Result<()> {
+    let renamed = fs::rename(rt, part, name);
+    if renamed.is_err() {
         let _ = fs::remove_file(rt, part);
+    }
+    renamed
+}
+
+// The name under which a file is made.
+fn put_part_name(page: &mut Page, name: &[u8])
+    requires name_len_bound { length name.now ≤ most_name }
+    requires room { HasRoom most_part_name page.old }
+    ensures { Adds most_part_name page.old (part_name name.now) page.new }
+{
+    page.put_text(name);
+    page.put_text(b".part");
+}
+
+// The names are text here, as the library asks.
+fn make_at<R: Files + Eprint>(rt: &R, part: &str, name: &str, bytes: &[u8]) -> bool {
+    if let Err(error) = write_part(rt, part, bytes) {
+        fail(rt, part, &error);
+        return false;
+    }
+    if let Err(error) = take_name(rt, part, name) {
+        fail(rt, name, &error);
         return false;
     }
     true
 }
 
-// The name under which a file is made.
-fn part_name(part: &mut [u8], name: &[u8]) -> usize
-    requires { (length name.now ≤ most_name) × (most_part_name ≤ length part.old) }
-    ensures { Line most_part_name (part_name name.now) part.old result part.new }
+/// A file of this name with these bytes, also with none, in the place of one that is there; whether it could be made. Where it couldn't, standard error
+/// says why, and what stood there stands.
+pub fn make_file<R: Files + Eprint>(rt: &R, name: &[u8], bytes: &[u8]) -> bool
+    requires { length name.now ≤ most_name }
 {
-    let a = put_text(part, 0, name);
-    put_text(part, a, b".part")
-}
-
-// The names are text here, as the library asks.
-fn make_at<R: Files + Eprint>(rt: &R, part: &[u8], name: &[u8], bytes: &[u8]) -> bool {
-    match (from_utf8(part), from_utf8(name)) {
-        (Ok(p), Ok(n)) => write_part(rt, p, bytes) && take_name(rt, p, n),
+    let mut room = [0; MOST_PART_NAME];
+    let mut page = Page::new(&mut room);
+    put_part_name(&mut page, name);
+    match (from_utf8(page.text()), from_utf8(name)) {
+        (Ok(part), Ok(name)) => make_at(rt, part, name, bytes),
         _ => {
             let _ = eprintln!(rt; "{}: a name that is not UTF-8", name.escape_ascii());
             false
@@ -140,30 +147,36 @@ fn make_at<R: Files + Eprint>(rt: &R, part: &[u8], name: &[u8], bytes: &[u8]) ->
     }
 }
 
-// A file of this name with these bytes, also with none, in the place of one that is there. Where it can't be made, standard error says why, and what
-// stood there stands.
-pub fn make_file<R: Files + Eprint>(rt: &R, name: &[u8], bytes: &[u8]) -> bool
-    requires { length name.now ≤ most_name }
-{
-    let mut part = [0u8; MOST_PART_NAME];
-    let n = part_name(&mut part, name);
-    make_at(rt, &part[..n], name, bytes)
+/// An argument of the program, of at most 4,096 bytes.
+#[derive(Drop)]
+pub struct Argument {
+    room: [u8; MOST_NAME],
+    length: usize,
+    ghost within: { length ≤ 4096 },
 }
 
-// Argument i of the program at the start of `buf`: how long it is, 0 where there is none or it is longer than `buf`. Argument 0 is the program's own name.
-pub fn argument<R: Env>(rt: &R, i: usize, buf: &mut [u8]) -> usize
-    ensures { IsPrefixLen result buf.new }
-{
-    rt.arg(i, buf).unwrap_or(0)
+impl Argument {
+    /// Argument `i` of the program, counted from its own name, which is argument 0. One that is missing or longer has no bytes.
+    pub fn new<R: Env>(rt: &R, i: usize) -> Argument {
+        let mut room = [0; MOST_NAME];
+        let length = rt.arg(i, &mut room).unwrap_or(0);
+        Argument { room, length }
+    }
+
+    /// Its bytes.
+    pub fn bytes(&self) -> &[u8]
+        ensures { length result.now ≤ most_name }
+    {
+        &self.room[..self.length]
+    }
 }
 
 // Whether the program was started with an argument i, however long.
 fn is_argument<R: Env>(rt: &R, i: usize) -> bool {
-    let mut byte = [0u8; 1];
-    !matches!(rt.arg(i, &mut byte), Err(FillError::NotPresent))
+    !matches!(rt.arg(i, &mut [0u8; 1]), Err(FillError::NotPresent))
 }
 
-// How many arguments the program was started with, its own name among them.
+/// How many arguments the program was started with, its own name among them.
 pub fn argument_count<R: Env>(rt: &R) -> usize {
     for i in 0..usize::MAX {
         if !is_argument(rt, i) {
@@ -173,8 +186,22 @@ pub fn argument_count<R: Env>(rt: &R) -> usize {
     usize::MAX
 }
 
+/// Lines on standard output; where that fails, standard error says so.
 pub fn print_lines<R: Print + Eprint>(rt: &R, lines: &[u8]) {
-    if let Err(e) = Print::write_all(rt, lines) {
-        fail(rt, "standard output", &e);
+    if let Err(error) = Print::write_all(rt, lines) {
+        fail(rt, "standard output", &error);
+    }
+}
+
+/// For each two arguments of the program: the first as a line, and then what is done with the two.
+pub fn for_each_pair<R: Env + Print, F: Fn(&[u8], &[u8])>(rt: &R, work: F)
+    requires { F.IsAlwaysCallable work }
+{
+    for k in 0..argument_count(rt) / 2 {
+        let first = Argument::new(rt, 2 * k + 1);
+        let second = Argument::new(rt, 2 * k + 2);
+        let _ = rt.write_all(first.bytes());
+        let _ = rt.write_all(b"\n");
+        work(first.bytes(), second.bytes());
     }
 }

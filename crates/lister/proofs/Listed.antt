@@ -28,8 +28,9 @@ use Rattle.words.specs.LaidOut.{LaidOut}
 use Rattle.words.specs.Statements.{Traces}
 use Rattle.holds.proofs.Fitting.{store-good}
 use Rattle.listed.specs.Listing.{refused_line, run_lines, lines_by, listing_lines, listing}
-use Rattle.text.specs.Written.{Line}
-use Rattle.text.proofs.LineLaws.{line_same}
+use Rattle.text.specs.declared.Page.{Page}
+use Rattle.text.specs.Written.{HasRoom, Adds}
+use Rattle.text.proofs.WroteLaws.{adds_as}
 use Rattle.show.specs.Entries.{rows_in, run_text}
 use Rattle.show.proofs.Whole.{text-is}
 use Rattle.show.proofs.OfState.{frames-are, objects-are}
@@ -98,10 +99,10 @@ module _ (img cs : List ℕ) (a : Answer) (ws after lent rows : List ℕ) (says 
   unfolding answer_of
   answer-is = says.answer ∙ ap (λ (n : ℕ). answer_of n img cs) sized
 
-  pub listed-refused : (k p r : ℕ) (d o : List ℕ) → a ≡ Refusal k p → Line 128 (refused_line k p) d r o → Line 1179904 (listing img cs) d r o
-  listed-refused k p r d o e w =
+  pub listed-refused : (k p : ℕ) (d o : Page) → a ≡ Refusal k p → Adds 128 d (refused_line k p) o → Adds 1179904 d (listing img cs) o
+  listed-refused k p d o e w =
       let z = refused-by (check [] size img) (run_script img cs) k p (sym answer-is ∙ e) in
-      line_same 128 1179904 r (refused_line k p) (listing img cs) d o w (text-refused img cs k p z) (omega arith)
+      adds_as 128 1179904 d o (refused_line k p) (listing img cs) w (text-refused img cs k p z) (omega arith)
 
   module _ (few : length cs ≤ 4096) (e : End) (n : ℕ) (ends : a ≡ Ending e n) where
     behind : (check [] size img ≡ Accepted) × (e ≡ (run_script img cs).end) × (n ≡ (run_script img cs).steps)
@@ -111,21 +112,21 @@ module _ (img cs : List ℕ) (a : Answer) (ws after lent rows : List ℕ) (says 
     few-steps = let l = script-steps img cs in let s = behind.2 in omega arith
 
     -- what the printing of the run asks
-    pub run-asks : (d : List ℕ) → 1179904 ≤ length d → length rows ≡ 20480 → length after ≡ size
-        → (128 * (n + 5122) ≤ length d) × ((10 ≤ length img) × ((size ≤ length after) × (5 * n ≤ length rows)))
+    pub run-asks : (d : Page) → HasRoom 1179904 d → length rows ≡ 20480 → length after ≡ size
+        → HasRoom (128 * (n + 5122)) d × ((10 ≤ length img) × ((size ≤ length after) × (5 * n ≤ length rows)))
     run-asks d h l s =
         let f = few-steps in
         (omega arith, ((good [] size img behind.0).sized.long-enough, (omega arith, omega arith)))
 
-    pub listed-run : Bytes img → length lent ≡ 20480 → (r : ℕ) (d o : List ℕ) → Line (128 * (n + 5122)) (run_text img after rows e n) d r o
-        → Line 1179904 (listing img cs) d r o
+    pub listed-run : Bytes img → length lent ≡ 20480 → (d o : Page) → Adds (128 * (n + 5122)) d (run_text img after rows e n) o
+        → Adds 1179904 d (listing img cs) o
     unfolding words_after words_after_run rows_after rows_after_run
-    listed-run are-bytes long r d o w =
+    listed-run are-bytes long d o w =
         let f = few-steps in
         let b = behind in
         let words : after ≡ layout (run_script img cs).store (run_script img cs).control ++ drop size ws =
         says.words ∙ rw (sized, b.0) in
         let placed : rows ≡ place_rows lent 0 (rows_of img cs) = says.rows ∙ rw (sized, b.0) in
-        line_same (128 * (n + 5122)) 1179904 r (run_text img after rows e n) (listing img cs) d o w
+        adds_as (128 * (n + 5122)) 1179904 d o (run_text img after rows e n) (listing img cs) w
         (run-text img cs are-bytes b.0 (drop size ws) after lent rows e n words placed (omega arith) b.1 b.2)
         (omega arith)

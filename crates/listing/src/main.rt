@@ -1,4 +1,4 @@
-// The listing program of document 01: reads `script.img` and `choices.bin` here and prints the listing of their run.
+//! The listing program of document 01: reads `script.img` and `choices.bin` here and prints the listing of their run.
 #![tactic(auto)]
 
 fn main(rt: HostRuntime) {

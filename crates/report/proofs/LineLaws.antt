@@ -3,7 +3,6 @@ use Prim.Native.Nat.{ℕ, ◌≤◌}
 use mathlib.Core.Path.{◌≡◌, refl}
 use mathlib.Core.List.{List, [], ◌++◌}
 use native.Mathlib.Omega.{arith}
-use lib.ListN.{length}
 use Rattle.rules.specs.declared.Value.{Value}
 use Rattle.rules.specs.declared.Frame.{Frame}
 use Rattle.rules.specs.Image.{code_at}
@@ -11,71 +10,68 @@ use Rattle.words.specs.Lent.{row_words}
 use Rattle.text.specs.Ascii.{ascii}
 use Rattle.text.specs.Text.{decimal, further, line, pair, last}
 use Rattle.listed.specs.Listing.{header_line, row_line, refused_line, value_words, cell_line, field_line, no_input, choices_too_long}
-use Rattle.text.specs.Written.{Wrote, Line}
-use Rattle.text.proofs.WroteLaws.{both-wrote, wrote_as}
-use Rattle.text.proofs.LineLaws.{line_of}
+use Rattle.text.specs.declared.Page.{Page}
+use Rattle.text.specs.Written.{Adds}
+use Rattle.text.proofs.WroteLaws.{both-adds, adds_as}
 
-module _ (r : ℕ) (d o : List ℕ) (room : 128 ≤ length d) where
-  pub line_as : (m : ℕ) (xs ys : List ℕ) → Wrote m d 0 xs r o → xs ≡ ys → m ≤ 128 → Line 128 ys d r o
-  line_as m xs ys w e l = line_of 128 r ys d o (wrote_as m 128 0 r xs ys d o w e l) room
-
-  pub header-wrote : Wrote 36 d 0 (ascii "step choice node tag frames objects\n") r o → Line 128 header_line d r o
+module _ (d o : Page) where
+  pub header-wrote : Adds 36 d (ascii "step choice node tag frames objects\n") o → Adds 128 d header_line o
   unfolding header_line line further
-  header-wrote w = line_as 36 (ascii "step choice node tag frames objects\n") header_line w refl (omega arith)
+  header-wrote w = adds_as 36 128 d o (ascii "step choice node tag frames objects\n") header_line w refl (omega arith)
 
-  pub no-input-wrote : Wrote 9 d 0 (ascii "no input\n") r o → Line 128 no_input d r o
+  pub no-input-wrote : Adds 9 d (ascii "no input\n") o → Adds 128 d no_input o
   unfolding no_input line further
-  no-input-wrote w = line_as 9 (ascii "no input\n") no_input w refl (omega arith)
+  no-input-wrote w = adds_as 9 128 d o (ascii "no input\n") no_input w refl (omega arith)
 
-  pub too-long-wrote : Wrote 17 d 0 (ascii "choices too long\n") r o → Line 128 choices_too_long d r o
+  pub too-long-wrote : Adds 17 d (ascii "choices too long\n") o → Adds 128 d choices_too_long o
   unfolding choices_too_long line further
-  too-long-wrote w = line_as 17 (ascii "choices too long\n") choices_too_long w refl (omega arith)
+  too-long-wrote w = adds_as 17 128 d o (ascii "choices too long\n") choices_too_long w refl (omega arith)
 
-  pub refused-wrote : (k p q : ℕ) (e : List ℕ) → Wrote 28 d 0 (pair (ascii "refused") k) q e → Wrote 25 e q (last (ascii " at") p) r o
-      → Line 128 (refused_line k p) d r o
+  pub refused-wrote : (k p a b : ℕ) (e : Page) → a ≡ k → b ≡ p → Adds 28 d (pair (ascii "refused") a) e → Adds 25 e (last (ascii " at") b) o
+      → Adds 128 d (refused_line k p) o
   unfolding refused_line line further
-  refused-wrote k p q e v w =
-      line_as 53 (pair (ascii "refused") k ++ last (ascii " at") p) (refused_line k p)
-      (both-wrote 28 25 0 q r (pair (ascii "refused") k) (last (ascii " at") p) d e o v w) refl (omega arith)
+  refused-wrote k p a b e i j v w =
+      adds_as 53 128 d o (pair (ascii "refused") k ++ last (ascii " at") p) (refused_line k p)
+      (both-adds 28 25 d e o (pair (ascii "refused") k) (last (ascii " at") p) (rw i at v) (rw j at w)) refl (omega arith)
 
-  pub row_wrote : (k a b c x y : ℕ) (p₁ p₂ p₃ p₄ p₅ : ℕ) (o₁ o₂ o₃ o₄ o₅ : List ℕ)
-      → Wrote 20 d 0 (decimal k) p₁ o₁
-      → Wrote 21 o₁ p₁ (pair [] a) p₂ o₂
-      → Wrote 21 o₂ p₂ (pair [] b) p₃ o₃
-      → Wrote 21 o₃ p₃ (pair [] c) p₄ o₄
-      → Wrote 21 o₄ p₄ (pair [] x) p₅ o₅
-      → Wrote 22 o₅ p₅ (last [] y) r o
-      → Line 128 (row_line k (record { choice = a; node = b; tag = c; frames = x; objects = y })) d r o
+  pub row_wrote : (k a b c x y a' b' c' x' y' : ℕ) (o₁ o₂ o₃ o₄ o₅ : Page) → a' ≡ a → b' ≡ b → c' ≡ c → x' ≡ x → y' ≡ y
+      → Adds 20 d (decimal k) o₁
+      → Adds 21 o₁ (pair [] a') o₂
+      → Adds 21 o₂ (pair [] b') o₃
+      → Adds 21 o₃ (pair [] c') o₄
+      → Adds 21 o₄ (pair [] x') o₅
+      → Adds 22 o₅ (last [] y') o
+      → Adds 128 d (row_line k (record { choice = a; node = b; tag = c; frames = x; objects = y })) o
   unfolding row_line row_words line further
-  row_wrote k a b c x y p₁ p₂ p₃ p₄ p₅ o₁ o₂ o₃ o₄ o₅ w₁ w₂ w₃ w₄ w₅ w₆ =
-      line_as 126 (decimal k ++ (pair [] a ++ (pair [] b ++ (pair [] c ++ (pair [] x ++ last [] y)))))
+  row_wrote k a b c x y a' b' c' x' y' o₁ o₂ o₃ o₄ o₅ i₂ i₃ i₄ i₅ i₆ w₁ w₂ w₃ w₄ w₅ w₆ =
+      adds_as 126 128 d o (decimal k ++ (pair [] a ++ (pair [] b ++ (pair [] c ++ (pair [] x ++ last [] y)))))
       (row_line k (record { choice = a; node = b; tag = c; frames = x; objects = y }))
-      (both-wrote 20 106 0 p₁ r (decimal k) (pair [] a ++ (pair [] b ++ (pair [] c ++ (pair [] x ++ last [] y)))) d o₁ o w₁
-      (both-wrote 21 85 p₁ p₂ r (pair [] a) (pair [] b ++ (pair [] c ++ (pair [] x ++ last [] y))) o₁ o₂ o w₂
-      (both-wrote 21 64 p₂ p₃ r (pair [] b) (pair [] c ++ (pair [] x ++ last [] y)) o₂ o₃ o w₃
-      (both-wrote 21 43 p₃ p₄ r (pair [] c) (pair [] x ++ last [] y) o₃ o₄ o w₄
-      (both-wrote 21 22 p₄ p₅ r (pair [] x) (last [] y) o₄ o₅ o w₅ w₆)))))
+      (both-adds 20 106 d o₁ o (decimal k) (pair [] a ++ (pair [] b ++ (pair [] c ++ (pair [] x ++ last [] y)))) w₁
+      (both-adds 21 85 o₁ o₂ o (pair [] a) (pair [] b ++ (pair [] c ++ (pair [] x ++ last [] y))) (rw i₂ at w₂)
+      (both-adds 21 64 o₂ o₃ o (pair [] b) (pair [] c ++ (pair [] x ++ last [] y)) (rw i₃ at w₃)
+      (both-adds 21 43 o₃ o₄ o (pair [] c) (pair [] x ++ last [] y) (rw i₄ at w₄)
+      (both-adds 21 22 o₄ o₅ o (pair [] x) (last [] y) (rw i₅ at w₅) (rw i₆ at w₆))))))
       refl (omega arith)
 
   module _ (img : List ℕ) where
-    pub cell-wrote : (k p q : ℕ) (f : Frame) (e u : List ℕ) → Wrote 25 d 0 (pair (ascii "cell") k) p e
-        → Wrote 26 e p (pair (ascii " name") f.name) q u
-        → Wrote 48 u q (further (value_words img f.cell)) r o
-        → Line 128 (cell_line img k f) d r o
+    pub cell-wrote : (k a b : ℕ) (f : Frame) (e u : Page) → a ≡ k → b ≡ f.name → Adds 25 d (pair (ascii "cell") a) e
+        → Adds 26 e (pair (ascii " name") b) u
+        → Adds 48 u (further (value_words img f.cell)) o
+        → Adds 128 d (cell_line img k f) o
     unfolding cell_line line further
-    cell-wrote k p q f e u v w x =
-        line_as 99 (pair (ascii "cell") k ++ (pair (ascii " name") f.name ++ further (value_words img f.cell))) (cell_line img k f)
-        (both-wrote 25 74 0 p r (pair (ascii "cell") k) (pair (ascii " name") f.name ++ further (value_words img f.cell)) d e o v
-        (both-wrote 26 48 p q r (pair (ascii " name") f.name) (further (value_words img f.cell)) e u o w x))
+    cell-wrote k a b f e u i j v w x =
+        adds_as 99 128 d o (pair (ascii "cell") k ++ (pair (ascii " name") f.name ++ further (value_words img f.cell))) (cell_line img k f)
+        (both-adds 25 74 d e o (pair (ascii "cell") k) (pair (ascii " name") f.name ++ further (value_words img f.cell)) (rw i at v)
+        (both-adds 26 48 e u o (pair (ascii " name") f.name) (further (value_words img f.cell)) (rw j at w) x))
         refl (omega arith)
 
-    pub field-wrote : (n i c p q : ℕ) (v : Value) (e u : List ℕ) → c ≡ code_at img i → Wrote 27 d 0 (pair (ascii "object") n) p e
-        → Wrote 27 e p (pair (ascii " field") c) q u
-        → Wrote 48 u q (further (value_words img v)) r o
-        → Line 128 (field_line img n i v) d r o
+    pub field-wrote : (n i c m : ℕ) (v : Value) (e u : Page) → c ≡ code_at img i → m ≡ n → Adds 27 d (pair (ascii "object") m) e
+        → Adds 27 e (pair (ascii " field") c) u
+        → Adds 48 u (further (value_words img v)) o
+        → Adds 128 d (field_line img n i v) o
     unfolding field_line line further
-    field-wrote n i c p q v e u h a b x =
-        line_as 102 (pair (ascii "object") n ++ (pair (ascii " field") c ++ further (value_words img v))) (field_line img n i v)
-        (both-wrote 27 75 0 p r (pair (ascii "object") n) (pair (ascii " field") c ++ further (value_words img v)) d e o a
-        (both-wrote 27 48 p q r (pair (ascii " field") c) (further (value_words img v)) e u o b x))
+    field-wrote n i c m v e u h j a b x =
+        adds_as 102 128 d o (pair (ascii "object") n ++ (pair (ascii " field") c ++ further (value_words img v))) (field_line img n i v)
+        (both-adds 27 75 d e o (pair (ascii "object") n) (pair (ascii " field") c ++ further (value_words img v)) (rw j at a)
+        (both-adds 27 48 e u o (pair (ascii " field") c) (further (value_words img v)) b x))
         (rw h) (omega arith)

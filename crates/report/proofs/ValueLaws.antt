@@ -3,6 +3,7 @@ use Prim.Native.Nat.{ℕ, ◌≤◌}
 use mathlib.Core.Path.{◌≡◌, refl, sym, ap, ◌∙◌}
 use mathlib.Core.List.{List, [], ◌∷◌, ◌++◌}
 use native.Mathlib.Omega.{arith}
+use lib.IntN.{ℤ}
 use mir.Syntax.{w32}
 use mir.Val.{to_z}
 use Rattle.rules.specs.declared.Chain.{Chain}
@@ -12,74 +13,74 @@ use Rattle.rules.specs.declared.Value.TheVariants.{Nothing, Null, Int, Field, Ob
 use Rattle.text.specs.Ascii.{ascii}
 use Rattle.text.specs.Text.{decimal, signed, further, pair, last}
 use Rattle.listed.specs.Listing.{code_of, chain_word, value_words}
-use Rattle.text.specs.Written.{Wrote}
-use Rattle.text.proofs.WroteLaws.{both-wrote, wrote_as}
+use Rattle.text.specs.declared.Page.{Page}
+use Rattle.text.specs.Written.{Adds}
+use Rattle.text.proofs.WroteLaws.{both-adds, adds_as}
 
-module _ (at r : ℕ) (d o : List ℕ) where
-  pub int-wrote : (b p q : ℕ) (e u : List ℕ) → Wrote 5 d at (ascii " int ") p e → Wrote 21 e p (signed (to_z w32 b)) q u
-      → Wrote 1 u q (ascii "\n") r o → Wrote 27 d at (further (ascii "int" ∷ signed (to_z w32 b) ∷ [])) r o
+module _ (d o : Page) where
+  pub int-wrote : (b : ℕ) (z : ℤ) (e u : Page) → z ≡ to_z w32 b → Adds 5 d (ascii " int ") e → Adds 21 e (signed z) u
+      → Adds 1 u (ascii "\n") o → Adds 27 d (further (ascii "int" ∷ signed (to_z w32 b) ∷ [])) o
   unfolding further
-  int-wrote b p q e u v w x =
-      both-wrote 5 22 at p r (ascii " int ") (signed (to_z w32 b) ++ ascii "\n") d e o v
-      (both-wrote 21 1 p q r (signed (to_z w32 b)) (ascii "\n") e u o w x)
+  int-wrote b z e u i v w x =
+      rw (← i)
+      (both-adds 5 22 d e o (ascii " int ") (signed z ++ ascii "\n") v
+      (both-adds 21 1 e u o (signed z) (ascii "\n") w x))
 
-  pub chain-none : (ch : Chain) → ch ≡ Empty → Wrote 6 d at (ascii " none\n") r o → Wrote 22 d at (further (chain_word ch ∷ [])) r o
+  pub chain-none : (ch : Chain) → ch ≡ Empty → Adds 6 d (ascii " none\n") o → Adds 22 d (further (chain_word ch ∷ [])) o
   unfolding further chain_word
-  chain-none ch c w = wrote_as 6 22 at r (ascii " none\n") (further (chain_word ch ∷ [])) d o w (rw c) (omega arith)
+  chain-none ch c w = adds_as 6 22 d o (ascii " none\n") (further (chain_word ch ∷ [])) w (rw c) (omega arith)
 
-  pub chain-frame : (ch : Chain) (k : ℕ) → ch ≡ From k → Wrote 22 d at (last [] k) r o → Wrote 22 d at (further (chain_word ch ∷ [])) r o
+  pub chain-frame : (ch : Chain) (k a : ℕ) → ch ≡ From k → a ≡ k → Adds 22 d (last [] a) o → Adds 22 d (further (chain_word ch ∷ [])) o
   unfolding further chain_word
-  chain-frame ch k c w = wrote_as 22 22 at r (last [] k) (further (chain_word ch ∷ [])) d o w (rw c) (omega arith)
+  chain-frame ch k a c i w = adds_as 22 22 d o (last [] k) (further (chain_word ch ∷ [])) (rw i at w) (rw c) (omega arith)
 
-  pub proc-wrote : (n : ℕ) (ch : Chain) (q : ℕ) (e : List ℕ) → Wrote 26 d at (pair (ascii " proc") n) q e
-      → Wrote 22 e q (further (chain_word ch ∷ [])) r o
-      → Wrote 48 d at (further (ascii "proc" ∷ decimal n ∷ chain_word ch ∷ [])) r o
+  pub proc-wrote : (n a : ℕ) (ch : Chain) (e : Page) → a ≡ n → Adds 26 d (pair (ascii " proc") a) e → Adds 22 e (further (chain_word ch ∷ [])) o
+      → Adds 48 d (further (ascii "proc" ∷ decimal n ∷ chain_word ch ∷ [])) o
   unfolding further
-  proc-wrote n ch q e v w = both-wrote 26 22 at q r (pair (ascii " proc") n) (further (chain_word ch ∷ [])) d e o v w
+  proc-wrote n a ch e i v w = both-adds 26 22 d e o (pair (ascii " proc") n) (further (chain_word ch ∷ [])) (rw i at v) w
 
   module _ (img : List ℕ) where
-    pub field-wrote : (f c : ℕ) → c ≡ code_of img f → Wrote 28 d at (last (ascii " field") c) r o
-        → Wrote 28 d at (further (value_words img (Field f))) r o
+    pub field-wrote : (f c : ℕ) → c ≡ code_of img f → Adds 28 d (last (ascii " field") c) o → Adds 28 d (further (value_words img (Field f))) o
     unfolding further value_words
     field-wrote f c e w =
-        wrote_as 28 28 at r (last (ascii " field") c) (further (value_words img (Field f))) d o w
+        adds_as 28 28 d o (last (ascii " field") c) (further (value_words img (Field f))) w
         (ap (λ (n : ℕ). last (ascii " field") n) e) (omega arith)
 
     -- each kind of value
-    by_kind : (m : ℕ) (v w : Value) (t : List ℕ) → v ≡ w → Wrote m d at t r o → t ≡ further (value_words img w) → m ≤ 48
-        → Wrote 48 d at (further (value_words img v)) r o
+    by_kind : (m : ℕ) (v w : Value) (t : List ℕ) → v ≡ w → Adds m d t o → t ≡ further (value_words img w) → m ≤ 48
+        → Adds 48 d (further (value_words img v)) o
     by_kind m v w t e x i l =
-        wrote_as m 48 at r t (further (value_words img v)) d o x (i ∙ ap (λ (u : Value). further (value_words img u)) (sym e)) l
+        adds_as m 48 d o t (further (value_words img v)) x (i ∙ ap (λ (u : Value). further (value_words img u)) (sym e)) l
 
-    pub value-nothing : (v : Value) → v ≡ Nothing → Wrote 1 d at (ascii "\n") r o → Wrote 48 d at (further (value_words img v)) r o
+    pub value-nothing : (v : Value) → v ≡ Nothing → Adds 1 d (ascii "\n") o → Adds 48 d (further (value_words img v)) o
     unfolding further value_words
     value-nothing v e w = by_kind 1 v Nothing (ascii "\n") e w refl (omega arith)
 
-    pub value-null : (v : Value) → v ≡ Null → Wrote 6 d at (ascii " null\n") r o → Wrote 48 d at (further (value_words img v)) r o
+    pub value-null : (v : Value) → v ≡ Null → Adds 6 d (ascii " null\n") o → Adds 48 d (further (value_words img v)) o
     unfolding further value_words
     value-null v e w = by_kind 6 v Null (ascii " null\n") e w refl (omega arith)
 
-    pub value-int : (v : Value) (b : ℕ) → v ≡ Int b → Wrote 27 d at (further (ascii "int" ∷ signed (to_z w32 b) ∷ [])) r o
-        → Wrote 48 d at (further (value_words img v)) r o
+    pub value-int : (v : Value) (b : ℕ) → v ≡ Int b → Adds 27 d (further (ascii "int" ∷ signed (to_z w32 b) ∷ [])) o
+        → Adds 48 d (further (value_words img v)) o
     unfolding further value_words
     value-int v b e w = by_kind 27 v (Int b) (further (ascii "int" ∷ signed (to_z w32 b) ∷ [])) e w refl (omega arith)
 
-    pub value-field : (v : Value) (f : ℕ) → v ≡ Field f → Wrote 28 d at (further (value_words img (Field f))) r o
-        → Wrote 48 d at (further (value_words img v)) r o
+    pub value-field : (v : Value) (f : ℕ) → v ≡ Field f → Adds 28 d (further (value_words img (Field f))) o
+        → Adds 48 d (further (value_words img v)) o
     value-field v f e w = by_kind 28 v (Field f) (further (value_words img (Field f))) e w refl (omega arith)
 
-    pub value-object : (v : Value) (n : ℕ) → v ≡ Object n → Wrote 29 d at (last (ascii " object") n) r o
-        → Wrote 48 d at (further (value_words img v)) r o
+    pub value-object : (v : Value) (n a : ℕ) → v ≡ Object n → a ≡ n → Adds 29 d (last (ascii " object") a) o
+        → Adds 48 d (further (value_words img v)) o
     unfolding further value_words
-    value-object v n e w = by_kind 29 v (Object n) (last (ascii " object") n) e w refl (omega arith)
+    value-object v n a e i w = by_kind 29 v (Object n) (last (ascii " object") n) e (rw i at w) refl (omega arith)
 
     pub value-proc : (v : Value) (n : ℕ) (ch : Chain) → v ≡ Proc n ch
-        → Wrote 48 d at (further (ascii "proc" ∷ decimal n ∷ chain_word ch ∷ [])) r o
-        → Wrote 48 d at (further (value_words img v)) r o
+        → Adds 48 d (further (ascii "proc" ∷ decimal n ∷ chain_word ch ∷ [])) o
+        → Adds 48 d (further (value_words img v)) o
     unfolding further value_words
     value-proc v n ch e w =
         by_kind 48 v (Proc n ch) (further (ascii "proc" ∷ decimal n ∷ chain_word ch ∷ [])) e w refl (omega arith)
 
-    pub value-unset : (v : Value) → v ≡ Unset → Wrote 7 d at (ascii " unset\n") r o → Wrote 48 d at (further (value_words img v)) r o
+    pub value-unset : (v : Value) → v ≡ Unset → Adds 7 d (ascii " unset\n") o → Adds 48 d (further (value_words img v)) o
     unfolding further value_words
     value-unset v e w = by_kind 7 v Unset (ascii " unset\n") e w refl (omega arith)

@@ -1,5 +1,5 @@
-// The listing of document 01 as text. Each function writes one line, or a piece of one, into a lent buffer, and its
-// contract says exactly which bytes stand there afterwards (specs/Listing; Written is of the crate text).
+//! The listing of document 01 as text. Each function writes one line, or a piece of one, on a page, and its contract says exactly which bytes it
+//! puts down there (specs/Listing; Written is of the crate text).
 #![tactic(auto)]
 
 pub mod codes;

@@ -1,75 +1,67 @@
-// A value at the end of a line: its words, each after a space, and the line's end.
-ghost use Rattle.std.specs.Prelude.{◌+◌, ◌≤◌, [], ◌∷◌, length};
+//! A value at the end of a line: its words, each after a space, and the line's end.
+ghost use Rattle.std.specs.Prelude.{[], ◌∷◌};
 ghost use Rattle.std.specs.Int.{w32};
 ghost use Rattle.std.proofs.Common.{to_z};
 ghost use Rattle.text.specs.Ascii.{ascii};
-ghost use Rattle.text.specs.Text.{decimal, signed, further, last};
+ghost use Rattle.text.specs.Text.{decimal, signed, further};
 ghost use Rattle.listed.specs.Listing.{chain_word, value_words};
 ghost use Rattle.rules.specs.declared.Value.TheVariants.{Field};
-ghost use Rattle.text.specs.Written.{Wrote};
+ghost use Rattle.text.specs.Written.{HasRoom, Adds};
 
 use crate::codes::code_of;
 use rules::{Chain, Value};
-use text::{put_last, put_pair, put_signed, put_text};
+use text::Page;
 
 // An integer by its 32 bits.
-fn put_int(out: &mut [u8], at: usize, b: u32) -> usize
-    requires { at + 27 ≤ length out.old }
-    ensures { Wrote 27 out.old at (further (ascii "int" ∷ signed (to_z w32 b) ∷ [])) result out.new }
+fn put_int(page: &mut Page, bits: u32)
+    requires { HasRoom 27 page.old }
+    ensures { Adds 27 page.old (further (ascii "int" ∷ signed (to_z w32 bits) ∷ [])) page.new }
 {
-    let a = put_text(out, at, b" int ");
-    let c = put_signed(out, a, b);
-    put_text(out, c, b"\n")
+    page.put_text(b" int ");
+    page.put_signed(bits.cast_signed());
+    page.put_text(b"\n");
 }
 
-// A frame by its number.
-fn put_frame(out: &mut [u8], at: usize, k: u32) -> usize
-    requires { at + 22 ≤ length out.old }
-    ensures { Wrote 22 out.old at (last [] k) result out.new }
+// The frame of a procedure's chain, by its number, or none.
+fn put_chain(page: &mut Page, chain: Chain)
+    requires { HasRoom 22 page.old }
+    ensures { Adds 22 page.old (further (chain_word chain ∷ [])) page.new }
 {
-    put_last(out, at, b"", k as u64)
-}
-
-// The frame of a procedure's chain, or none.
-fn put_chain(out: &mut [u8], at: usize, ch: Chain) -> usize
-    requires { at + 22 ≤ length out.old }
-    ensures { Wrote 22 out.old at (further (chain_word ch ∷ [])) result out.new }
-{
-    match ch {
-        Chain::Empty => put_text(out, at, b" none\n"),
-        Chain::From(k) => put_frame(out, at, k),
+    match chain {
+        Chain::Empty => page.put_text(b" none\n"),
+        Chain::From(frame) => page.put_last(b"", u64::from(frame)),
     }
 }
 
 // A procedure by its proc node and its chain.
-fn put_proc(out: &mut [u8], at: usize, n: u32, ch: Chain) -> usize
-    requires { at + 48 ≤ length out.old }
-    ensures { Wrote 48 out.old at (further (ascii "proc" ∷ decimal n ∷ chain_word ch ∷ [])) result out.new }
+fn put_proc(page: &mut Page, node: u32, chain: Chain)
+    requires { HasRoom 48 page.old }
+    ensures { Adds 48 page.old (further (ascii "proc" ∷ decimal node ∷ chain_word chain ∷ [])) page.new }
 {
-    let a = put_pair(out, at, b" proc", n as u64);
-    put_chain(out, a, ch)
+    page.put_pair(b" proc", u64::from(node));
+    put_chain(page, chain);
 }
 
 // A field by its attribute code.
-fn put_field(out: &mut [u8], at: usize, img: &[u8], f: u32) -> usize
-    requires { at + 28 ≤ length out.old }
-    ensures { Wrote 28 out.old at (further (value_words img.now (Field f))) result out.new }
+fn put_field(page: &mut Page, img: &[u8], field: u32)
+    requires { HasRoom 28 page.old }
+    ensures { Adds 28 page.old (further (value_words img.now (Field field))) page.new }
 {
-    let code = code_of(img, f);
-    put_last(out, at, b" field", code)
+    page.put_last(b" field", code_of(img, field));
 }
 
-pub fn put_value(out: &mut [u8], at: usize, img: &[u8], v: Value) -> usize
-    requires { at + 48 ≤ length out.old }
-    ensures { Wrote 48 out.old at (further (value_words img.now v)) result out.new }
+/// A value as the listing writes it.
+pub fn put_value(page: &mut Page, img: &[u8], value: Value)
+    requires { HasRoom 48 page.old }
+    ensures { Adds 48 page.old (further (value_words img.now value)) page.new }
 {
-    match v {
-        Value::Nothing => put_text(out, at, b"\n"),
-        Value::Null => put_text(out, at, b" null\n"),
-        Value::Int(b) => put_int(out, at, b),
-        Value::Field(f) => put_field(out, at, img, f),
-        Value::Object(o) => put_last(out, at, b" object", o as u64),
-        Value::Proc(n, ch) => put_proc(out, at, n, ch),
-        Value::Unset => put_text(out, at, b" unset\n"),
+    match value {
+        Value::Nothing => page.put_text(b"\n"),
+        Value::Null => page.put_text(b" null\n"),
+        Value::Int(bits) => put_int(page, bits),
+        Value::Field(field) => put_field(page, img, field),
+        Value::Object(object) => page.put_last(b" object", u64::from(object)),
+        Value::Proc(node, chain) => put_proc(page, node, chain),
+        Value::Unset => page.put_text(b" unset\n"),
     }
 }

@@ -1,4 +1,3 @@
-pub mod SameLines
 pub mod Turns
 pub mod Whole
 pub mod Listed

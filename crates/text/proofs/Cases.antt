@@ -1,14 +1,16 @@
 -- The definitions of text, computed: numbers, lines, pieces of a line; and what each field of `Wrote` and of `Line` says,
--- on a buffer of four bytes. So none of them can change with the code that writes. Assumes nothing.
-use Prim.Native.Nat.{ℕ, ◌≤◌}
+-- on a buffer of four bytes, and what `Adds` says of a page. So none of them can change with the code that writes. Assumes nothing.
+use Prim.Native.Nat.{ℕ, ◌+◌, ◌≤◌}
 use mathlib.Core.Path.{◌≡◌, refl, ap, ◌∙◌}
 use mathlib.Core.List.{List, [], ◌∷◌}
 use native.Mathlib.Omega.{arith}
 use lib.IntN.{pos, negsuc}
 use lib.ListN.{length, take, drop}
+use lib.Seq.{sets}
 use Rattle.text.specs.Ascii.{ascii}
 use Rattle.text.specs.Text.{digit_count_by, digit_count, decimal, signed, further, line, pair, last}
-use Rattle.text.specs.Written.{Wrote, Line}
+use Rattle.text.specs.declared.Page.{Page}
+use Rattle.text.specs.Written.{Wrote, Line, HasRoom, Adds}
 
 -- ---- numbers
 
@@ -72,3 +74,11 @@ line-there = record { is = refl; long = refl; few = omega arith; front = refl; c
 -- the front of the buffer, as it is written out, is the text and lies within it
 pub line-front : (most r : ℕ) (text before after : List ℕ) → Line most text before r after → (take r after ≡ text) × (r ≤ length after) × (r ≡ length (take r after))
 line-front most r text before after w = (w.front, w.counts.0, w.counts.1)
+
+-- a page gains the text behind what it had, and stands in the same bytes
+pub adds-is : (most : ℕ) (text : List ℕ) (p q : Page) → Adds most p text q
+    → (q.bytes.now ≡ sets p.bytes.now p.used text) × (q.used ≡ p.used + length text) × (length text ≤ most) × (q.bytes.ghost_name ≡ p.bytes.ghost_name)
+adds-is most text p q a = (a.wrote.is, a.wrote.next, a.wrote.few, a.lent)
+
+pub room-is : (most : ℕ) (p : Page) → HasRoom most p → p.used + most ≤ length p.bytes.now
+room-is most p h = h

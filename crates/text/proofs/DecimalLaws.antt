@@ -8,11 +8,12 @@ use native.Mathlib.Decide.{dec_lt}
 use native.Mathlib.Omega.{arith}
 use lib.ListN.{length}
 use lib.Pow.{pow-add}
-use lib.Seq.{sets}
 use borrow.Author.Tests.{lt-ltb, le-ltb}
 use Rattle.io.specs.Digits.{last_digits, IsDigitCount}
 use Rattle.text.specs.Text.{digit_count_by, digit_count, decimal}
-use Rattle.text.specs.Written.{Wrote}
+use Rattle.text.specs.declared.Page.{Page}
+use Rattle.text.specs.Written.{Adds}
+use Rattle.text.proofs.WroteLaws.{adds_as}
 
 one : (k : ℕ) → 1 ≤ 10 ^ k
 one zero = omega arith
@@ -59,15 +60,7 @@ few-digits n k w h = elim (dec_lt 20 k) [
   | no f ↦ omega arith
 ]
 
-pub decimal-room : (n k at m : ℕ) (xs : List ℕ) → IsDigitCount 10 1 n k → n < 2 ^ 64 → k ≡ length xs → at + 20 ≤ m → at + length xs ≤ m
-decimal-room n k at m xs w h e l = omega (arith, few-digits n k w h)
-
-pub decimal-wrote : (n k at r : ℕ) (xs d o : List ℕ) → IsDigitCount 10 1 n k → n < 2 ^ 64 → k ≡ length xs → xs ≡ last_digits 10 k n
-    → Wrote (length xs) d at xs r o → Wrote 20 d at (decimal n) r o
-decimal-wrote n k at r xs d o w h l e q =
-    let i : xs ≡ decimal n = decimal-is n k xs w e in
-    record {
-      is = q.is ∙ ap (sets d at) i;
-      next = q.next ∙ ap (λ (t : List ℕ). at + length t) i;
-      few = omega (arith, few-digits n k w h, ap length i);
-    }
+pub decimal-adds : (n k : ℕ) (xs : List ℕ) (p q : Page) → IsDigitCount 10 1 n k → n < 2 ^ 64 → k ≡ length xs → xs ≡ last_digits 10 k n
+    → Adds (length xs) p xs q → Adds 20 p (decimal n) q
+decimal-adds n k xs p q w h l e a =
+    adds_as (length xs) 20 p q xs (decimal n) a (decimal-is n k xs w e) (omega (arith, few-digits n k w h))

@@ -1,30 +1,27 @@
--- The two ways of writing 32 signed bits: the digits alone, or a minus sign before them. Assumes nothing.
-use Prim.Native.Nat.{ℕ, suc, ◌-◌, ◌^◌, ◌<◌, ◌≤◌}
-use mathlib.Core.Path.{◌≡◌, ap}
-use mathlib.Core.List.{List, [], ◌∷◌}
+-- The two ways of writing a signed integer: the digits alone, or a minus sign before them. Assumes nothing.
+use Prim.Native.Nat.{ℕ, suc}
+use mathlib.Core.Path.{◌≡◌, sym, ap, ◌∙◌}
+use mathlib.Core.Bool.{true, false, true≢false, false≢true}
+use mathlib.Core.List.{[], ◌∷◌}
 use native.Mathlib.Omega.{arith}
-use borrow.Author.Tests.{lt-ltb, le-ltb}
-use mir.Syntax.{w32}
-use mir.Val.{to_z}
+use lib.IntN.{ℤ, pos, negsuc, nat_abs}
+use lib.Signed.{lt_z}
+use borrow.Author.Tests.{le-ltb}
+use Rattle.text.specs.declared.Page.{Page}
 use Rattle.text.specs.Text.{decimal, signed}
-use Rattle.text.specs.Written.{Wrote}
-use Rattle.text.proofs.WroteLaws.{both-wrote, wrote_as}
+use Rattle.text.specs.Written.{Adds}
+use Rattle.text.proofs.WroteLaws.{both-adds, adds_as}
 
-not-below-zero : (b : ℕ) → b < 2 ^ 31 → decimal b ≡ signed (to_z w32 b)
+-- the size of z in m digits
+pub signed_up : (z : ℤ) (m : ℕ) (p q : Page) → lt_z z (pos 0) ≡ false → m ≡ nat_abs z → Adds 20 p (decimal m) q → Adds 21 p (signed z) q
 unfolding signed
-not-below-zero b h = rw (lt-ltb b (2 ^ 31) h)
+signed_up (pos n) m p q l e a = adds_as 20 21 p q (decimal m) (decimal n) a (ap decimal e) (omega arith)
+signed_up (negsuc n) m p q l e a = absurd (true≢false l)
 
-below-zero : (b : ℕ) → 2 ^ 31 ≤ b → b < 2 ^ 32 → 45 ∷ decimal (2 ^ 32 - b) ≡ signed (to_z w32 b)
+pub signed-down : (z : ℤ) (m : ℕ) (p q r : Page) → lt_z z (pos 0) ≡ true → m ≡ nat_abs z → Adds 1 p (45 ∷ []) q → Adds 20 q (decimal m) r
+    → Adds 21 p (signed z) r
 unfolding signed
-below-zero b h l =
-    let e : 2 ^ 32 - b ≡ suc (2 ^ 32 - suc b) = omega arith in
-    rw (le-ltb b (2 ^ 31) h) (ap (λ (n : ℕ). 45 ∷ decimal n) e)
-
-pub signed_up : (b at r : ℕ) (d o : List ℕ) → b < 2 ^ 31 → Wrote 20 d at (decimal b) r o → Wrote 21 d at (signed (to_z w32 b)) r o
-signed_up b at r d o h w = wrote_as 20 21 at r (decimal b) (signed (to_z w32 b)) d o w (not-below-zero b h) (omega arith)
-
-pub signed-down : (b at q r : ℕ) (d e o : List ℕ) → 2 ^ 31 ≤ b → b < 2 ^ 32 → Wrote 1 d at (45 ∷ []) q e
-    → Wrote 20 e q (decimal (2 ^ 32 - b)) r o → Wrote 21 d at (signed (to_z w32 b)) r o
-signed-down b at q r d e o h l v w =
-    wrote_as 21 21 at r (45 ∷ decimal (2 ^ 32 - b)) (signed (to_z w32 b)) d o
-    (both-wrote 1 20 at q r (45 ∷ []) (decimal (2 ^ 32 - b)) d e o v w) (below-zero b h l) (omega arith)
+signed-down (pos n) m p q r l e a b = absurd (false≢true (sym (le-ltb n 0 (omega arith)) ∙ l))
+signed-down (negsuc n) m p q r l e a b =
+    adds_as 21 21 p r (45 ∷ decimal m) (45 ∷ decimal (suc n)) (both-adds 1 20 p q r (45 ∷ []) (decimal m) a b)
+    (ap (λ (k : ℕ). 45 ∷ decimal k) e) (omega arith)

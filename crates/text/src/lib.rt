@@ -1,69 +1,85 @@
-// Pieces of a line: bytes as they are, and numbers in decimal. Each writes from index `at` on and answers the index past
-// what it wrote. A number has at most 20 digits, and asks for that much room.
+//! Text as bytes: pieces of a line, and numbers in decimal, put down one after the other on a page.
 #![tactic(auto)]
 
-ghost use Rattle.std.specs.Prelude.{◌≡◌, ◌+◌, ◌≤◌, ◌<◌, length, get_or};
-ghost use Rattle.std.specs.Int.{w32};
-ghost use Rattle.std.proofs.Common.{to_z};
+ghost use Rattle.std.specs.Prelude.{◌≡◌, ◌+◌, ◌≤◌, length, take};
 ghost use Rattle.text.specs.Text.{decimal, signed, pair, last};
-ghost use Rattle.text.specs.Written.{Wrote};
 
-// The byte that is copied to place i of a text.
-fn nth(s: &[u8], i: usize) -> u8
-    requires { i < length s.now }
-    ensures { result ≡ get_or s.now i 0 }
-{
-    s[i]
+/// Text from the start of lent bytes on; what stood behind it still stands there. A number has at most 20 digits, and asks for that much room.
+#[derive(Drop)]
+pub struct Page<'a> {
+    /// The lent bytes.
+    pub bytes: &'a mut [u8],
+    /// How many of them are text.
+    pub used: usize,
+    ghost within: { used ≤ length bytes.now },
 }
 
-pub fn put_text(out: &mut [u8], at: usize, s: &[u8]) -> usize
-    requires { at + length s.now ≤ length out.old }
-    ensures { Wrote (length s.now) out.old at s.now result out.new }
-{
-    let mut i = 0;
-    while i < s.len() {
-        out[at + i] = nth(s, i);
-        i += 1;
+impl<'a> Page<'a> {
+    ghost use Rattle.text.specs.Written.{HasRoom, Adds};
+
+    /// A page without text.
+    pub fn new(bytes: &'a mut [u8]) -> Page<'a>
+        ensures empty { result.used ≡ 0 }
+        ensures same_bytes { result.bytes.now ≡ bytes.old }
+        ensures same_reference { result.bytes.ghost_name ≡ bytes.entry.ghost_name }
+    {
+        Page { bytes, used: 0 }
     }
-    at + s.len()
-}
 
-pub fn put_decimal(out: &mut [u8], at: usize, n: u64) -> usize
-    requires { at + 20 ≤ length out.old }
-    ensures { Wrote 20 out.old at (decimal n) result out.new }
-{
-    let mut d = [0u8; 20];
-    let k = io::decimal(n, &mut d);
-    put_text(out, at, &d[..k])
-}
-
-// The 32 bits of a signed integer.
-pub fn put_signed(out: &mut [u8], at: usize, b: u32) -> usize
-    requires { at + 21 ≤ length out.old }
-    ensures { Wrote 21 out.old at (signed (to_z w32 b)) result out.new }
-{
-    if b < 2147483648 {
-        return put_decimal(out, at, b as u64);
+    /// The text so far.
+    pub fn text(&self) -> &[u8]
+        ensures { result.now ≡ take self.now.used self.now.bytes.now }
+    {
+        &self.bytes[..self.used]
     }
-    let next = put_text(out, at, b"-");
-    put_decimal(out, next, 4294967296 - b as u64)
-}
 
-// A text, a space and a number.
-pub fn put_pair(out: &mut [u8], at: usize, s: &[u8], n: u64) -> usize
-    requires { at + length s.now + 21 ≤ length out.old }
-    ensures { Wrote (length s.now + 21) out.old at (pair s.now n) result out.new }
-{
-    let a = put_text(out, at, s);
-    let b = put_text(out, a, b" ");
-    put_decimal(out, b, n)
-}
+    /// Bytes as they are.
+    pub fn put_text(&mut self, s: &[u8])
+        requires { HasRoom (length s.now) self.old }
+        ensures { Adds (length s.now) self.old s.now self.new }
+    {
+        let end = self.used + s.len();
+        self.bytes[self.used..end].copy_from_slice(s);
+        self.used = end;
+    }
 
-// The same at the end of a line.
-pub fn put_last(out: &mut [u8], at: usize, s: &[u8], n: u64) -> usize
-    requires { at + length s.now + 22 ≤ length out.old }
-    ensures { Wrote (length s.now + 22) out.old at (last s.now n) result out.new }
-{
-    let a = put_pair(out, at, s, n);
-    put_text(out, a, b"\n")
+    /// A number.
+    pub fn put_decimal(&mut self, n: u64)
+        requires { HasRoom 20 self.old }
+        ensures { Adds 20 self.old (decimal n) self.new }
+    {
+        let mut digits = [0; 20];
+        let count = io::decimal(n, &mut digits);
+        self.put_text(&digits[..count]);
+    }
+
+    /// A signed integer: a minus sign stands before the digits of one below zero.
+    pub fn put_signed(&mut self, n: i32)
+        requires { HasRoom 21 self.old }
+        ensures { Adds 21 self.old (signed n) self.new }
+    {
+        if n < 0 {
+            self.put_text(b"-");
+        }
+        self.put_decimal(u64::from(n.unsigned_abs()));
+    }
+
+    /// A text, a space and a number.
+    pub fn put_pair(&mut self, s: &[u8], n: u64)
+        requires { HasRoom (length s.now + 21) self.old }
+        ensures { Adds (length s.now + 21) self.old (pair s.now n) self.new }
+    {
+        self.put_text(s);
+        self.put_text(b" ");
+        self.put_decimal(n);
+    }
+
+    /// The same at the end of a line.
+    pub fn put_last(&mut self, s: &[u8], n: u64)
+        requires { HasRoom (length s.now + 22) self.old }
+        ensures { Adds (length s.now + 22) self.old (last s.now n) self.new }
+    {
+        self.put_pair(s, n);
+        self.put_text(b"\n");
+    }
 }

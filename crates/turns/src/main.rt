@@ -1,21 +1,18 @@
-// The program `turns`: of the script in the first file it makes a choice file under the second name.
+//! The program `turns`: of the script in the first file it makes a choice file under the second name.
 #![tactic(auto)]
 
 use chooser::files::{choose_paths, print_usage};
-use filing::{argument, argument_count};
+use filing::{Argument, argument_count};
 use std::rt::{Env, Files};
 
 fn with_names<R: Env + Files + Print + Eprint>(rt: &R) {
-    let mut script = [0u8; 4096];
-    let n = argument(rt, 1, &mut script);
-    let mut choices = [0u8; 4096];
-    let m = argument(rt, 2, &mut choices);
+    let script = Argument::new(rt, 1);
+    let choices = Argument::new(rt, 2);
     // the choices would take the script's place, and the script would be lost
-    if script[..n] == choices[..m] {
-        print_usage(rt);
-        return;
+    if script.bytes() == choices.bytes() {
+        return print_usage(rt);
     }
-    choose_paths(rt, &script[..n], &choices[..m]);
+    choose_paths(rt, script.bytes(), choices.bytes());
 }
 
 fn main(rt: HostRuntime) {

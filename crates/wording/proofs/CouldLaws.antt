@@ -8,73 +8,42 @@ use native.Mathlib.Omega.{arith}
 use native.Mathlib.Nat.{add-zero}
 use native.Mathlib.Numerals.{add-one}
 use lib.ListN.{length, get_or, length-append}
-use lib.Seq.{length-sets}
-use borrow.Author.Tests.{ne_eqb}
 use Rattle.laws.specs.UpTo.{up_to, up_to-add}
 use Rattle.text.specs.Ascii.{ascii}
-use Rattle.text.specs.Written.{Wrote}
-use Rattle.text.proofs.WroteLaws.{both-wrote, wrote_as, none-wrote, more-wrote}
+use Rattle.text.specs.declared.Page.{Page}
+use Rattle.text.specs.Written.{HasRoom, Adds}
+use Rattle.text.proofs.WroteLaws.{both-adds, adds_as, none-adds, more-adds}
 use Rattle.wording.specs.Lines.{Row, row, words_of, kinds, tells, told_of, further, joined, could_be}
 use Rattle.wording.specs.Words.{item, piece, count_after, TellSays}
-use Rattle.wording.specs.declared.could.Told.{Told}
-
--- ---- whether a kind is told
-
-module _ (could : List Bool) (k : ℕ) where
-  pub tells-other : (k ≡ 5 → ⊥) → get_or could k false ≡ tells could k
-  unfolding tells
-  tells-other f = rw (ne_eqb k 5 f) (plain (get_or could k false))
-    where
-      plain : (b : Bool) → b ≡ (b && true)
-      plain true = refl
-      plain false = refl
-
-  tells-minus : (b : Bool) → k ≡ 5 → get_or could 4 false ≡ b → tells could k ≡ (get_or could 5 false && not b)
-  unfolding tells
-  tells-minus b e f = rw (e, f)
-
-  pub tells-once : k ≡ 5 → get_or could 4 false ≡ true → false ≡ tells could k
-  tells-once e f = none (get_or could 5 false) ∙ sym (tells-minus true e f)
-    where
-      none : (b : Bool) → false ≡ (b && false)
-      none true = refl
-      none false = refl
-
-  pub tells-so : k ≡ 5 → get_or could 4 false ≡ false → get_or could 5 false ≡ tells could k
-  tells-so e f = plain (get_or could 5 false) ∙ sym (tells-minus false e f)
-    where
-      plain : (b : Bool) → b ≡ (b && true)
-      plain true = refl
-      plain false = refl
 
 -- ---- one word
 
-pub item-first : (at r n : ℕ) (w d o : List ℕ) → n ≡ 0 → Wrote 8 d at w r o → Wrote 10 d at (item n w) r o
+pub item-first : (n : ℕ) (w x : List ℕ) (d o : Page) → n ≡ 0 → x ≡ w → length x ≤ 8 → Adds (length x) d x o → Adds 10 d (item n w) o
 unfolding item
-item-first at r n w d o e v = rw e (wrote_as 8 10 at r w w d o v refl (omega arith))
+item-first n w x d o e i l v = rw e (adds_as (length x) 10 d o x w v i (omega arith))
 
-pub item-next : (at q r n : ℕ) (w d e o : List ℕ) → (n ≡ 0 → ⊥) → Wrote 2 d at (ascii ", ") q e → Wrote 8 e q w r o → Wrote 10 d at (item n w) r o
+pub item-next : (n : ℕ) (w x : List ℕ) (d e o : Page) → (n ≡ 0 → ⊥) → x ≡ w → length x ≤ 8 → Adds 2 d (ascii ", ") e → Adds (length x) e x o
+    → Adds 10 d (item n w) o
 unfolding item
-item-next at q r zero w d e o f v x = absurd (f refl)
-item-next at q r (suc n) w d e o f v x = both-wrote 2 8 at q r (ascii ", ") w d e o v x
+item-next zero w x d e o f i l v y = absurd (f refl)
+item-next (suc n) w x d e o f i l v y = both-adds 2 8 d e o (ascii ", ") w v (adds_as (length x) 8 e o x w y i l)
 
-module _ (could : List Bool) (k : ℕ) (t : Told) (b : Bool) (is : b ≡ tells could k) where
-  pub told-not : (d : List ℕ) → not b ≡ true → TellSays could k t t d d
+module _ (could : List Bool) (k n : ℕ) (b : Bool) (is : b ≡ tells could k) where
+  pub told-not : (d : Page) → not b ≡ true → TellSays could k n d n d
   unfolding piece count_after
   told-not d e =
       let f : tells could k ≡ false = sym is ∙ no b e in
-      record { wrote = rw f (wrote_as 0 10 t.next t.next [] [] d d (none-wrote t.next d) refl (omega arith)); many = rw f }
+      record { wrote = rw f (adds_as 0 10 d d [] [] (none-adds d) refl (omega arith)); many = rw f }
     where
       no : (x : Bool) → not x ≡ true → x ≡ false
       no true h = sym h
       no false h = refl
 
-  pub told-so : (p : ℕ) (d o : List ℕ) → not b ≡ false → Wrote 10 d t.next (item t.count (words_of k kinds)) p o
-      → TellSays could k t (record { next = p; count = t.count + 1 }) d o
+  pub told-so : (d o : Page) → not b ≡ false → Adds 10 d (item n (words_of k kinds)) o → TellSays could k n d (n + 1) o
   unfolding piece count_after
-  told-so p d o e w =
+  told-so d o e w =
       let f : tells could k ≡ true = sym is ∙ yes b e in
-      record { wrote = rw f w; many = rw f (add-one t.count) }
+      record { wrote = rw f w; many = rw f (add-one n) }
     where
       yes : (x : Bool) → not x ≡ false → x ≡ true
       yes true h = refl
@@ -135,51 +104,46 @@ at_most true n = omega arith
 at_most false n = omega arith
 
 -- the words of the first i rows stand
-pub record Telling (could : List Bool) (d : List ℕ) (at i : ℕ) (t : Told) (o : List ℕ) : Type 0 where
-  pub within : i ≤ 28
-  pub wrote : Wrote (10 * i) d at (joined (so_far could i)) t.next o
-  pub many : t.count ≡ length (so_far could i)
-  pub few : t.count ≤ i
-  pub same : length o ≡ length d
+pub record Telling (could : List Bool) (d : Page) (i n : ℕ) (o : Page) : Type 0 where
+  pub wrote : Adds (10 * i) d (joined (so_far could i)) o
+  pub many : n ≡ length (so_far could i)
+  pub few : n ≤ i
 
-pub telling-none : (could : List Bool) (d : List ℕ) (at : ℕ) → Telling could d at 0 (record { next = at; count = 0 }) d
+pub telling-none : (could : List Bool) (d : Page) → Telling could d 0 0 d
 unfolding so_far up_to told_of joined
-telling-none could d at = record { within = omega arith; wrote = none-wrote at d; many = refl; few = omega arith; same = refl }
+telling-none could d = record { wrote = none-adds d; many = refl; few = omega arith }
 
-module _ (could : List Bool) (d : List ℕ) (at i : ℕ) (t : Told) (o : List ℕ) (g : Telling could d at i t o) where
-  pub telling-room : i < 28 → at + 280 ≤ length d → (t.next + 10 ≤ length o) × (t.count < 28)
+module _ (could : List Bool) (d : Page) (i n : ℕ) (o : Page) (g : Telling could d i n o) where
+  pub telling-room : i < 28 → HasRoom 280 d → HasRoom 10 o × (n < 28)
   telling-room h l =
-      let few = g.wrote.few in
-      let next = g.wrote.next in
+      let few = g.wrote.wrote.few in
+      let next = g.wrote.wrote.next in
       let many = g.few in
-      let same = g.same in
+      let same = g.wrote.long in
       (omega arith, omega arith)
 
-  pub telling-more : (r : Told) (o' : List ℕ) → i < 28 → TellSays could ((i + 1) % 28) t r o o' → Telling could d at (i + 1) r o'
+  pub telling-more : (m : ℕ) (o' : Page) → TellSays could ((i + 1) % 28) n o m o' → Telling could d (i + 1) m o'
   unfolding piece count_after
-  telling-more r o' h s =
+  telling-more m o' s =
       let k = (i + 1) % 28 in
       let e = so_far_more could i in
       let few = g.few in
       let many = s.many in
-      let most = at_most (tells could k) t.count in
+      let most = at_most (tells could k) n in
       record {
-        within = omega arith;
         wrote =
-            more-wrote (10 * i) 10 (10 * (i + 1)) at t.next r.next (joined (so_far could i)) (piece could t.count k) (joined (so_far could (i + 1)))
-            d o o' g.wrote s.wrote
-            (ap joined e ∙ step (tells could k) (so_far could i) (words_of k kinds) t.count g.many)
+            more-adds (10 * i) 10 (10 * (i + 1)) d o o' (joined (so_far could i)) (piece could n k) (joined (so_far could (i + 1)))
+            g.wrote s.wrote
+            (ap joined e ∙ step (tells could k) (so_far could i) (words_of k kinds) n g.many)
             (omega arith);
-        many = many ∙ counts (tells could k) (so_far could i) (words_of k kinds) t.count g.many ∙ ap length (sym e);
+        many = many ∙ counts (tells could k) (so_far could i) (words_of k kinds) n g.many ∙ ap length (sym e);
         few = omega arith;
-        same = ap length s.wrote.is ∙ length-sets o t.next (piece could t.count k) ∙ g.same;
       }
 
-  pub telling-all : 28 ≤ i → Wrote 280 d at (could_be could) t.next o
+  pub telling-all : i ≤ 28 → 28 ≤ i → Adds 280 d (could_be could) o
   unfolding could_be so_far
-  telling-all h =
-      let within = g.within in
+  telling-all l h =
       let e : i ≡ 28 = omega arith in
-      wrote_as (10 * i) 280 at t.next (joined (so_far could i)) (could_be could) d o g.wrote
+      adds_as (10 * i) 280 d o (joined (so_far could i)) (could_be could) g.wrote
       (ap (λ (n : ℕ). joined (told_of could (up_to row_at n))) e ∙ ap (λ (rs : List Row). joined (told_of could rs)) (sym rows_are))
       (omega arith)

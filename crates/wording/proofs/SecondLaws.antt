@@ -1,98 +1,75 @@
 -- What the pieces of a refused text's second line make. Assumes nothing.
 use Prim.Native.Nat.{ℕ, ◌+◌, ◌<◌, ◌≤◌}
-use mathlib.Core.Path.{◌≡◌, refl, sym, ap}
+use mathlib.Core.Path.{◌≡◌, refl, ap}
 use mathlib.Core.Bool.{Bool}
 use mathlib.Core.List.{List, ◌++◌}
 use native.Mathlib.Omega.{arith}
-use native.Mathlib.Decide.{dec_lt}
 use lib.ListN.{length, get_or, take}
-use lib.Seq.{take_all, length-take-le}
+use lib.Seq.{length-take-le}
 use borrow.Author.Tests.{eq-eqb, ne_eqb, le-leb, lt-leb}
-use Rattle.io.specs.Counts.{IsPrefixLen}
 use Rattle.text.specs.Ascii.{ascii}
 use Rattle.text.specs.Text.{decimal}
-use Rattle.text.specs.Written.{Wrote}
-use Rattle.text.proofs.WroteLaws.{both-wrote, wrote_as}
+use Rattle.text.specs.declared.Page.{Page}
+use Rattle.text.specs.Written.{Adds}
+use Rattle.text.proofs.WroteLaws.{both-adds, adds_as}
 use Rattle.wording.specs.Lines.{words_of, faults, could_be, shown, stood, place_line, nodes_line, second_line}
-use Rattle.wording.specs.Words.{ShownCount}
 
 -- ---- the bytes of a place
 
-module _ (place : List ℕ) where
-  pub count-all : length place ≤ 64 → IsPrefixLen (length place) place × ShownCount (length place) (length place)
-  count-all h =
-      let e : take (length place) place ≡ place = take_all (length place) place (omega arith) in
-      ((omega arith, ap length (sym e)), record { all = λ _. refl; first = λ l. omega arith; few = h })
-
-  pub count-first : 64 < length place → IsPrefixLen 64 place × ShownCount (length place) 64
-  count-first h =
-      let e : length (take 64 place) ≡ 64 = length-take-le 64 place (omega arith) in
-      ((omega arith, sym e), record { all = λ l. omega arith; first = λ _. refl; few = omega arith })
-
-module _ (at n : ℕ) (place d : List ℕ) (c : ShownCount (length place) n) where
-  pub shown-all : (r : ℕ) (o : List ℕ) → n ≡ length place → Wrote (length (take n place)) d at (take n place) r o → Wrote 66 d at (shown place) r o
+module _ (place : List ℕ) (d o : Page) where
+  pub shown-all : length place ≤ 64 → Adds (length place) d place o → Adds 66 d (shown place) o
   unfolding shown
-  shown-all r o e w =
-      let few = c.few in
-      let t : take n place ≡ place = take_all n place (omega arith) in
-      rw (le-leb (length place) 64 (omega arith))
-      (wrote_as (length (take n place)) 66 at r (take n place) place d o w t (omega (arith, ap length t)))
+  shown-all h w = rw (le-leb (length place) 64 h) (adds_as (length place) 66 d o place place w refl (omega arith))
 
-  pub shown-cut : (q r : ℕ) (e o : List ℕ) → (n ≡ length place → ⊥) → Wrote (length (take n place)) d at (take n place) q e
-      → Wrote 2 e q (ascii "..") r o → Wrote 66 d at (shown place) r o
+  pub shown-cut : (e : Page) → 64 < length place → Adds (length (take 64 place)) d (take 64 place) e → Adds 2 e (ascii "..") o → Adds 66 d (shown place) o
   unfolding shown
-  shown-cut q r e o f v w = elim (dec_lt 64 (length place)) [
-    | yes l ↦
-        let n64 : n ≡ 64 = c.first l in
-        let t : length (take n place) ≡ n = length-take-le n place (omega arith) in
-        rw (lt-leb (length place) 64 l)
-        (wrote_as (length (take n place) + 2) 66 at r (take n place ++ ascii "..") (take 64 place ++ ascii "..") d o
-        (both-wrote (length (take n place)) 2 at q r (take n place) (ascii "..") d e o v w)
-        (ap (λ (m : ℕ). take m place ++ ascii "..") n64)
-        (omega arith))
-    | no g ↦ absurd (f (c.all (omega arith)))
-  ]
+  shown-cut e h v w =
+      let n : length (take 64 place) ≡ 64 = length-take-le 64 place (omega arith) in
+      rw (lt-leb (length place) 64 h)
+      (adds_as (length (take 64 place) + 2) 66 d o (take 64 place ++ ascii "..") (take 64 place ++ ascii "..")
+      (both-adds (length (take 64 place)) 2 d e o (take 64 place) (ascii "..") v w) refl (omega arith))
 
 -- ---- what stood there
 
-module _ (at k kind r : ℕ) (place d o : List ℕ) where
-  pub stood-end : kind ≡ 0 → Wrote 9 d at (ascii "early end") r o → Wrote 92 d at (stood k kind place) r o
+module _ (k kind : ℕ) (place : List ℕ) (d o : Page) where
+  pub stood-end : kind ≡ 0 → Adds 9 d (ascii "early end") o → Adds 92 d (stood k kind place) o
   unfolding stood
-  stood-end e w = rw e (wrote_as 9 92 at r (ascii "early end") (ascii "early end") d o w refl (omega arith))
+  stood-end e w = rw e (adds_as 9 92 d o (ascii "early end") (ascii "early end") w refl (omega arith))
 
-  pub stood-byte : (q : ℕ) (e : List ℕ) → (kind ≡ 0 → ⊥) → k ≡ 22 → Wrote 9 d at (ascii "bad byte ") q e
-      → Wrote 20 e q (decimal (get_or place 0 0)) r o → Wrote 92 d at (stood k kind place) r o
+  pub stood-byte : (b : ℕ) (e : Page) → (kind ≡ 0 → ⊥) → k ≡ 22 → b ≡ get_or place 0 0 → Adds 9 d (ascii "bad byte ") e
+      → Adds 20 e (decimal b) o → Adds 92 d (stood k kind place) o
   unfolding stood
-  stood-byte q e f i v w =
+  stood-byte b e f i j v w =
       rw (ne_eqb kind 0 f, eq-eqb k 22 i)
-      (wrote_as 29 92 at r (ascii "bad byte " ++ decimal (get_or place 0 0)) (ascii "bad byte " ++ decimal (get_or place 0 0)) d o
-      (both-wrote 9 20 at q r (ascii "bad byte ") (decimal (get_or place 0 0)) d e o v w) refl (omega arith))
+      (adds_as 29 92 d o (ascii "bad byte " ++ decimal b) (ascii "bad byte " ++ decimal (get_or place 0 0))
+      (both-adds 9 20 d e o (ascii "bad byte ") (decimal b) v w) (ap (λ (n : ℕ). ascii "bad byte " ++ decimal n) j) (omega arith))
 
-  pub stood-place : (p q : ℕ) (e u : List ℕ) → (kind ≡ 0 → ⊥) → (k ≡ 22 → ⊥) → Wrote 24 d at (words_of k faults) p e → Wrote 2 e p (ascii ": ") q u
-      → Wrote 66 u q (shown place) r o → Wrote 92 d at (stood k kind place) r o
+  pub stood-place : (words : List ℕ) (e u : Page) → (kind ≡ 0 → ⊥) → (k ≡ 22 → ⊥) → words ≡ words_of k faults → length words ≤ 24
+      → Adds (length words) d words e → Adds 2 e (ascii ": ") u
+      → Adds 66 u (shown place) o → Adds 92 d (stood k kind place) o
   unfolding stood
-  stood-place p q e u f g v w x =
+  stood-place words e u f g i l v w x =
       rw (ne_eqb kind 0 f, ne_eqb k 22 g)
-      (both-wrote 24 68 at p r (words_of k faults) (ascii ": " ++ shown place) d e o v
-      (both-wrote 2 66 p q r (ascii ": ") (shown place) e u o w x))
+      (both-adds 24 68 d e o (words_of k faults) (ascii ": " ++ shown place) (adds_as (length words) 24 d e words (words_of k faults) v i l)
+      (both-adds 2 66 e u o (ascii ": ") (shown place) w x))
 
   module _ (could : List Bool) where
-    pub place-wrote : (p q s : ℕ) (e u v : List ℕ)
-        → Wrote 92 d at (stood k kind place) p e
-        → Wrote 12 e p (ascii "; could be: ") q u
-        → Wrote 280 u q (could_be could) s v
-        → Wrote 1 v s (ascii "\n") r o
-        → Wrote 385 d at (place_line k kind place could) r o
+    pub place-wrote : (e u v : Page)
+        → Adds 92 d (stood k kind place) e
+        → Adds 12 e (ascii "; could be: ") u
+        → Adds 280 u (could_be could) v
+        → Adds 1 v (ascii "\n") o
+        → Adds 385 d (place_line k kind place could) o
     unfolding place_line
-    place-wrote p q s e u v w x y z =
-        both-wrote 92 293 at p r (stood k kind place) (ascii "; could be: " ++ (could_be could ++ ascii "\n")) d e o w
-        (both-wrote 12 281 p q r (ascii "; could be: ") (could_be could ++ ascii "\n") e u o x
-        (both-wrote 280 1 q s r (could_be could) (ascii "\n") u v o y z))
+    place-wrote e u v w x y z =
+        both-adds 92 293 d e o (stood k kind place) (ascii "; could be: " ++ (could_be could ++ ascii "\n")) w
+        (both-adds 12 281 e u o (ascii "; could be: ") (could_be could ++ ascii "\n") x
+        (both-adds 280 1 u v o (could_be could) (ascii "\n") y z))
 
-    pub second-nodes : k ≡ 27 → Wrote 64 d at nodes_line r o → Wrote 385 d at (second_line k kind place could) r o
+    pub second-nodes : k ≡ 27 → Adds 64 d nodes_line o → Adds 385 d (second_line k kind place could) o
     unfolding second_line
-    second-nodes e w = rw (eq-eqb k 27 e) (wrote_as 64 385 at r nodes_line nodes_line d o w refl (omega arith))
+    second-nodes e w = rw (eq-eqb k 27 e) (adds_as 64 385 d o nodes_line nodes_line w refl (omega arith))
 
-    pub second-place : (k ≡ 27 → ⊥) → Wrote 385 d at (place_line k kind place could) r o → Wrote 385 d at (second_line k kind place could) r o
+    pub second-place : (k ≡ 27 → ⊥) → Adds 385 d (place_line k kind place could) o → Adds 385 d (second_line k kind place could) o
     unfolding second_line
     second-place f w = rw (ne_eqb k 27 f) w

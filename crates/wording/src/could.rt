@@ -1,76 +1,60 @@
-// What could have stood at a place, as a list of words: the kinds in order, and last the end of the text, of kind 0.
-ghost use Rattle.std.specs.Prelude.{◌≡◌, ◌+◌, ◌<◌, ◌≤◌, length};
-ghost use Rattle.text.specs.Written.{Wrote};
+//! What could have stood at a place, as a list of words: the kinds in order, and last the end of the text, of kind 0.
+ghost use Rattle.std.specs.Prelude.{◌≡◌, ◌<◌};
+ghost use Rattle.text.specs.Written.{HasRoom, Adds};
 ghost use Rattle.wording.specs.Lines.{words_of, kinds, tells as tells_kind, could_be};
 ghost use Rattle.wording.specs.Words.{item, TellSays};
 
-use crate::words::put_kind;
-use text::put_text;
+use crate::words::kind_words;
+use text::Page;
 
 // a minus directly before a digit, and any other
 const SIGN: usize = 4;
 
 const MINUS: usize = 5;
 
-// The index past the words so far, and how many they are.
-#[derive(Clone, Copy)]
-pub struct Told {
-    pub next: usize,
-    pub count: usize,
-}
-
-fn tells(could: &[bool], k: usize) -> bool
-    requires { (length could.now ≡ 29) × (k < 28) }
+// Whether a kind is told: a minus is told once.
+#[tactic(auto, unfolding(crate::specs::Lines::tells))]
+fn tells(could: &[bool; 29], k: usize) -> bool
+    requires { k < 28 }
     ensures { result ≡ tells_kind could.now k }
 {
-    if k != MINUS {
-        return could[k];
-    }
-    if could[SIGN] {
-        return false;
-    }
-    could[MINUS]
+    could[k] && !(k == MINUS && could[SIGN])
 }
 
-fn put_item(out: &mut [u8], at: usize, count: usize, k: usize) -> usize
-    requires { (at + 10 ≤ length out.old) × (k < 28) }
-    ensures { Wrote 10 out.old at (item count (words_of k kinds)) result out.new }
+// The word of a kind behind so many others.
+fn put_item(page: &mut Page, count: usize, k: usize)
+    requires room { HasRoom 10 page.old }
+    requires k_in_range { k < 28 }
+    ensures { Adds 10 page.old (item count (words_of k kinds)) page.new }
 {
     if count == 0 {
-        return put_kind(out, at, k);
+        page.put_text(kind_words(k));
+    } else {
+        page.put_text(b", ");
+        page.put_text(kind_words(k));
     }
-    let a = put_text(out, at, b", ");
-    put_kind(out, a, k)
 }
 
-// The word of a kind behind those so far, where it could have stood.
-fn tell(out: &mut [u8], t: Told, could: &[bool], k: usize) -> Told
-    requires could_len { (length could.now ≡ 29) × (k < 28) }
-    requires next_in_bounds { (t.next + 10 ≤ length out.old) × (t.count < 28) }
-    ensures { TellSays could.now k t result out.old out.new }
+// The word of a kind behind so many others, where it could have stood: how many they are then.
+fn tell(page: &mut Page, count: usize, could: &[bool; 29], k: usize) -> usize
+    requires room { HasRoom 10 page.old }
+    requires k_in_range { (count < 28) × (k < 28) }
+    ensures { TellSays could.now k count page.old result page.new }
 {
     if !tells(could, k) {
-        return t;
+        return count;
     }
-    let next = t.next;
-    let count = t.count;
-    let past = put_item(out, next, count, k);
-    Told {
-        next: past,
-        count: count + 1,
-    }
+    put_item(page, count, k);
+    count + 1
 }
 
-pub fn put_could(out: &mut [u8], at: usize, could: &[bool]) -> usize
-    requires could_len { length could.now ≡ 29 }
-    requires at_in_bounds { at + 280 ≤ length out.old }
-    ensures { Wrote 280 out.old at (could_be could.now) result out.new }
+/// The words of the kinds that could have stood, with commas between them.
+pub fn put_could(page: &mut Page, could: &[bool; 29])
+    requires { HasRoom 280 page.old }
+    ensures { Adds 280 page.old (could_be could.now) page.new }
 {
-    let mut t = Told { next: at, count: 0 };
-    let mut i: usize = 0;
-    while i < 28 {
-        t = tell(out, t, could, (i + 1) % 28);
-        i += 1;
+    let mut count = 0;
+    for i in 0..28 {
+        count = tell(page, count, could, (i + 1) % 28);
     }
-    t.next
 }

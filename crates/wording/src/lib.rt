@@ -1,5 +1,5 @@
-// The lines that the program `encode` prints, each written into a lent buffer: those of one line (lines), and the second line of a refused text (second),
-// with what could have stood there (could), from the tables of words (words).
+//! The lines that the program `encode` prints, each put down on a page: those of one line (lines), and the second line of a refused text (second),
+//! with what could have stood there (could), from the tables of words (words).
 #![tactic(auto)]
 
 mod could;

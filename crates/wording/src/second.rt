@@ -1,100 +1,69 @@
-// The second line of a refused text: what stood there and what could have stood there.
-ghost use Rattle.std.specs.Prelude.{◌≡◌, ◌+◌, ◌<◌, ◌≤◌, length};
-ghost use Rattle.io.specs.Counts.{IsPrefixLen};
-ghost use Rattle.text.specs.Text.{decimal};
-ghost use Rattle.text.specs.Written.{Wrote};
+//! The second line of a refused text: what stood there and what could have stood there.
+ghost use Rattle.std.specs.Prelude.{◌≡◌, ◌<◌, ◌≤◌, length};
+ghost use Rattle.text.specs.Written.{HasRoom, Adds};
 ghost use Rattle.wording.specs.Lines.{shown, stood, place_line, second_line};
-ghost use Rattle.wording.specs.Words.{ShownCount};
 
 use crate::could::put_could;
 use crate::lines::nodes_line;
-use crate::words::put_fault;
-use text::{put_decimal, put_text};
+use crate::words::fault_words;
+use text::Page;
 
 const MOST_SHOWN: usize = 64;
 
-// How many bytes of a place are shown.
-fn shown_count(place: &[u8]) -> usize
-    ensures { IsPrefixLen result place.now × ShownCount (length place.now) result }
+// A place as it stands in the text, or its first bytes.
+fn put_shown(page: &mut Page, place: &[u8])
+    requires { HasRoom 66 page.old }
+    ensures { Adds 66 page.old (shown place.now) page.new }
 {
     if place.len() <= MOST_SHOWN {
-        return place.len();
+        page.put_text(place);
+    } else {
+        page.put_text(&place[..MOST_SHOWN]);
+        page.put_text(b"..");
     }
-    MOST_SHOWN
-}
-
-fn put_shown(out: &mut [u8], at: usize, place: &[u8]) -> usize
-    requires { at + 66 ≤ length out.old }
-    ensures { Wrote 66 out.old at (shown place.now) result out.new }
-{
-    let n = shown_count(place);
-    let a = put_text(out, at, &place[..n]);
-    if n == place.len() {
-        return a;
-    }
-    put_text(out, a, b"..")
-}
-
-fn put_byte(out: &mut [u8], at: usize, b: u8) -> usize
-    requires { at + 20 ≤ length out.old }
-    ensures { Wrote 20 out.old at (decimal b) result out.new }
-{
-    put_decimal(out, at, b as u64)
 }
 
 // By the number of the refusal and the kind of what stood there; 0 is the end of the text.
-fn put_stood(out: &mut [u8], at: usize, number: usize, kind: u32, place: &[u8]) -> usize
-    requires at_in_bounds { at + 92 ≤ length out.old }
+fn put_stood(page: &mut Page, number: usize, kind: u32, place: &[u8])
+    requires room { HasRoom 92 page.old }
     requires le_number { (22 ≤ number) × (number < 27) }
     requires place_nonzero { (kind ≡ 0 → ⊥) → 0 < length place.now }
-    ensures { Wrote 92 out.old at (stood number kind place.now) result out.new }
+    ensures { Adds 92 page.old (stood number kind place.now) page.new }
 {
     if kind == 0 {
-        return put_text(out, at, b"early end");
+        page.put_text(b"early end");
+    } else if number == 22 {
+        page.put_text(b"bad byte ");
+        page.put_decimal(u64::from(place[0]));
+    } else {
+        page.put_text(fault_words(number));
+        page.put_text(b": ");
+        put_shown(page, place);
     }
-    if number == 22 {
-        let a = put_text(out, at, b"bad byte ");
-        return put_byte(out, a, place[0]);
-    }
-    let a = put_fault(out, at, number);
-    let b = put_text(out, a, b": ");
-    put_shown(out, b, place)
 }
 
-fn place_line(
-    out: &mut [u8],
-    at: usize,
-    number: usize,
-    kind: u32,
-    place: &[u8],
-    could: &[bool],
-) -> usize
-    requires at_in_bounds { (at + 385 ≤ length out.old) × (length could.now ≡ 29) }
+fn place_line(page: &mut Page, number: usize, kind: u32, place: &[u8], could: &[bool; 29])
+    requires room { HasRoom 385 page.old }
     requires le_number { (22 ≤ number) × (number < 27) }
     requires place_nonzero { (kind ≡ 0 → ⊥) → 0 < length place.now }
-    ensures { Wrote 385 out.old at (place_line number kind place.now could.now) result out.new }
+    ensures { Adds 385 page.old (place_line number kind place.now could.now) page.new }
 {
-    let a = put_stood(out, at, number, kind, place);
-    let b = put_text(out, a, b"; could be: ");
-    let c = put_could(out, b, could);
-    put_text(out, c, b"\n")
+    put_stood(page, number, kind, place);
+    page.put_text(b"; could be: ");
+    put_could(page, could);
+    page.put_text(b"\n");
 }
 
-pub fn second_line(
-    out: &mut [u8],
-    at: usize,
-    number: usize,
-    kind: u32,
-    place: &[u8],
-    could: &[bool],
-) -> usize
-    requires at_in_bounds { (at + 385 ≤ length out.old) × (length could.now ≡ 29) }
+/// What stood at the place that a text is refused for, by the number of the refusal and the kind of what stood there, and which kinds could have stood there.
+pub fn second_line(page: &mut Page, number: usize, kind: u32, place: &[u8], could: &[bool; 29])
+    requires room { HasRoom 385 page.old }
     requires le_number { (22 ≤ number) × (number ≤ 27) }
     requires place_nonzero { (kind ≡ 0 → ⊥) → 0 < length place.now }
-    ensures { Wrote 385 out.old at (second_line number kind place.now could.now) result out.new }
+    ensures { Adds 385 page.old (second_line number kind place.now could.now) page.new }
 {
     if number == 27 {
-        return nodes_line(out, at);
+        nodes_line(page);
+    } else {
+        place_line(page, number, kind, place, could);
     }
-    place_line(out, at, number, kind, place, could)
 }

@@ -1,151 +1,78 @@
-// The tables of words, by number, and the words of a number as a piece of a line. A row is filled up with underscores, which no word has.
-ghost use Rattle.std.specs.Prelude.{◌≡◌, ◌+◌, ◌<◌, ◌≤◌, length, take};
-ghost use Rattle.io.specs.Counts.{IsPrefixLen};
-ghost use Rattle.text.specs.Written.{Wrote};
+//! The words of a number, a table for each kind of number.
+ghost use Rattle.std.specs.Prelude.{◌≡◌, ◌<◌, ◌≤◌, length};
+ghost use Rattle.fieldlist.specs.Fault.{fault_no};
 ghost use Rattle.wording.specs.Lines.{words_of, row_faults, faults, kinds};
-ghost use Rattle.wording.specs.Words.{words_in, Kept, Spells};
 
-use text::put_text;
+use fieldlist::fault::RowFault;
 
-const FILLER: u8 = b'_';
-
-// the kinds of tokens; 0 is the end of the text
-const KINDS: [[u8; 8]; 28] = [
-    *b"the end_",
-    *b"a name__",
-    *b"a field_",
-    *b"a number",
-    *b"-_______",
-    *b"-_______",
-    *b"null____",
-    *b"proc____",
-    *b"true____",
-    *b"false___",
-    *b"var_____",
-    *b"malloc__",
-    *b"skip____",
-    *b"while___",
-    *b"if______",
-    *b"else____",
-    *b"atom____",
-    *b"(_______",
-    *b")_______",
-    *b"{_______",
-    *b"}_______",
-    *b";_______",
-    *b"||______",
-    *b"._______",
-    *b"=_______",
-    *b"==______",
-    *b"<_______",
-    *b":_______",
-];
-
-// what is wrong with a row of the list, from 1
-const ROW_FAULTS: [[u8; 32]; 9] = [
-    *b"over 16 rows____________________",
-    *b"no field name___________________",
-    *b"a reserved word as name_________",
-    *b"a name that stands before_______",
-    *b"no comma behind the name________",
-    *b"no digit behind the comma_______",
-    *b"no byte 10 behind the code______",
-    *b"a code not from 1 to 65535______",
-    *b"a code not above the one before_",
-];
-
-// what is wrong at a place, from 23
-const FAULTS: [[u8; 24]; 4] = [
-    *b"bad word order__________",
-    *b"unknown field___________",
-    *b"number outside 32 bits__",
-    *b"too many names__________",
-];
-
-fn kind_table() -> [[u8; 8]; 28]
-    ensures { Kept 8 0 28 kinds result }
+/// The kinds of tokens; 0 is the end of the text.
+#[tactic(auto, unfolding(crate::specs::Lines::words_of, crate::specs::Lines::kinds))]
+pub fn kind_words(kind: usize) -> &'static [u8]
+    requires { kind < 28 }
+    ensures words { result.now ≡ words_of kind kinds }
+    ensures few { length result.now ≤ 8 }
 {
-    KINDS
-}
-
-fn row_fault_table() -> [[u8; 32]; 9]
-    ensures { Kept 32 1 9 row_faults result }
-{
-    ROW_FAULTS
-}
-
-fn fault_table() -> [[u8; 24]; 4]
-    ensures { Kept 24 23 4 faults result }
-{
-    FAULTS
-}
-
-fn kind_row(k: usize) -> [u8; 8]
-    requires { k < 28 }
-    ensures { Spells 8 k kinds result }
-{
-    let rows = kind_table();
-    rows[k]
-}
-
-fn row_fault_row(why: usize) -> [u8; 32]
-    requires { (0 < why) × (why < 10) }
-    ensures { Spells 32 why row_faults result }
-{
-    let rows = row_fault_table();
-    rows[why - 1]
-}
-
-fn fault_row(k: usize) -> [u8; 24]
-    requires { (22 < k) × (k < 27) }
-    ensures { Spells 24 k faults result }
-{
-    let rows = fault_table();
-    rows[k - 23]
-}
-
-// Where the words of a row end.
-fn words_end(row: &[u8]) -> usize
-    ensures { IsPrefixLen result row.now × (take result row.now ≡ words_in row.now) }
-{
-    let mut i: usize = 0;
-    while i < row.len() {
-        if row[i] == FILLER {
-            return i;
-        }
-        i += 1;
+    match kind {
+        0 => b"the end",
+        1 => b"a name",
+        2 => b"a field",
+        3 => b"a number",
+        4 | 5 => b"-",
+        6 => b"null",
+        7 => b"proc",
+        8 => b"true",
+        9 => b"false",
+        10 => b"var",
+        11 => b"malloc",
+        12 => b"skip",
+        13 => b"while",
+        14 => b"if",
+        15 => b"else",
+        16 => b"atom",
+        17 => b"(",
+        18 => b")",
+        19 => b"{",
+        20 => b"}",
+        21 => b";",
+        22 => b"||",
+        23 => b".",
+        24 => b"=",
+        25 => b"==",
+        26 => b"<",
+        _ => b":",
     }
-    i
 }
 
-fn put_words(out: &mut [u8], at: usize, row: &[u8]) -> usize
-    requires { at + length row.now ≤ length out.old }
-    ensures { Wrote (length row.now) out.old at (words_in row.now) result out.new }
+/// What is wrong with a row of the list.
+#[tactic(auto, unfolding(crate::specs::Lines::words_of, crate::specs::Lines::row_faults))]
+pub fn row_fault_words(fault: RowFault) -> &'static [u8]
+    ensures words { result.now ≡ words_of (fault_no fault) row_faults }
+    ensures few { length result.now ≤ 32 }
 {
-    let n = words_end(row);
-    put_text(out, at, &row[..n])
+    match fault {
+        RowFault::NoRoom => b"over 16 rows",
+        RowFault::NoName => b"no field name",
+        RowFault::Reserved => b"a reserved word as name",
+        RowFault::Repeated => b"a name that stands before",
+        RowFault::NoComma => b"no comma behind the name",
+        RowFault::NoDigit => b"no digit behind the comma",
+        RowFault::NoLineEnd => b"no byte 10 behind the code",
+        RowFault::OutOfRange => b"a code not from 1 to 65535",
+        RowFault::NotAbove => b"a code not above the one before",
+    }
 }
 
-pub fn put_kind(out: &mut [u8], at: usize, k: usize) -> usize
-    requires { (at + 8 ≤ length out.old) × (k < 28) }
-    ensures { Wrote 8 out.old at (words_of k kinds) result out.new }
+/// What is wrong at a place, from 23.
+#[tactic(auto, unfolding(crate::specs::Lines::words_of, crate::specs::Lines::faults))]
+pub fn fault_words(number: usize) -> &'static [u8]
+    requires { (22 < number) × (number < 27) }
+    ensures words { result.now ≡ words_of number faults }
+    ensures few { length result.now ≤ 24 }
 {
-    let row = kind_row(k);
-    put_words(out, at, &row)
-}
-
-pub fn put_row_fault(out: &mut [u8], at: usize, why: usize) -> usize
-    requires { (at + 32 ≤ length out.old) × (0 < why) × (why < 10) }
-    ensures { Wrote 32 out.old at (words_of why row_faults) result out.new }
-{
-    let row = row_fault_row(why);
-    put_words(out, at, &row)
-}
-
-pub fn put_fault(out: &mut [u8], at: usize, k: usize) -> usize
-    requires { (at + 24 ≤ length out.old) × (22 < k) × (k < 27) }
-    ensures { Wrote 24 out.old at (words_of k faults) result out.new }
-{
-    let row = fault_row(k);
-    put_words(out, at, &row)
+    match number {
+        23 => b"bad word order",
+        24 => b"unknown field",
+        25 => b"number outside 32 bits",
+        _ => b"too many names",
+    }
 }

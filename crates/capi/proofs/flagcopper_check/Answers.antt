@@ -2,4 +2,4 @@
 use Rattle.capi.proofs.flagcopper_check.Goals as goal
 
 pub returns : goal.returns
-returns c = rw c.check.ensures.verdict at c.say.ensures
+returns c = rw c.check.ensures.verdict at c.from.ensures

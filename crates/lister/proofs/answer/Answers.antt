@@ -1,21 +1,21 @@
 -- `lister::answer` meets its contract. One law for each way. Assumes nothing.
-use Rattle.std.proofs.Common.{arith, ap}
-use mathlib.Core.Bool.{not}
-use Rattle.lister.proofs.Printed.{answers-no-script, answers-no-choices, answers-listing, answers-long}
+use Rattle.std.proofs.Common.{arith, refl}
+use Rattle.listed.specs.Listing.{printed}
+use Rattle.lister.proofs.Printed.{answers-none, answers-listing, answers-long}
 use Rattle.lister.proofs.answer.Goals as goal
+use Rattle.lister.proofs.answer.Goals.{in_default-via-in-Some+in_default, in_default-via-in_default}
 
-pub returns-then-not-script_found : goal.returns-then-not-script_found
-returns-then-not-script_found c =
-    answers-no-script c.args.script_found c.args.choices_found c.args.script.now c.args.choices.now _ _ _ (ap not c.if-not-script_found.true) c.no_input.ensures
+pub returns-in_default : goal.returns-in_default
+unfolding printed
+returns-in_default c = elim c.in_default.branch [
+  | in_default-via-in-Some+in_default w ↦ answers-none _ _ _ _ _ _ w.in_default.is-0 w.in_default.is-1 refl c.no_input.ensures
+  | in_default-via-in_default w ↦ answers-none _ _ _ _ _ _ w.in_default.is-0 refl refl c.no_input.ensures
+]
 
-pub returns-then-not-choices_found : goal.returns-then-not-choices_found
-returns-then-not-choices_found c =
-    answers-no-choices c.args.script_found c.args.choices_found c.args.script.now c.args.choices.now _ _ _ (ap not c.if-not-script_found.false) (ap not c.if-not-choices_found.true) c.no_input-then-not-choices_found.ensures
-
-pub returns-then-choices-le-MOST_CHOICES : goal.returns-then-choices-le-MOST_CHOICES
-returns-then-choices-le-MOST_CHOICES c =
-    answers-listing c.args.script_found c.args.choices_found c.args.script.now c.args.choices.now _ _ _ (ap not c.if-not-script_found.false) (ap not c.if-not-choices_found.false) (omega arith) c.listing.ensures
+pub returns-then-choices-gt-MOST_CHOICES : goal.returns-then-choices-gt-MOST_CHOICES
+returns-then-choices-gt-MOST_CHOICES c =
+    answers-long _ _ _ _ _ _ c.in-Some-Some.is-0 c.in-Some-Some.is-1 c.if-choices-gt-MOST_CHOICES.true c.choices_too_long.ensures
 
 pub returns : goal.returns
 returns c =
-    answers-long c.args.script_found c.args.choices_found c.args.script.now c.args.choices.now _ _ _ (ap not c.if-not-script_found.false) (ap not c.if-not-choices_found.false) (omega arith) c.choices_too_long.ensures
+    answers-listing _ _ _ _ _ _ c.in-Some-Some.is-0 c.in-Some-Some.is-1 (omega (arith, c.if-choices-gt-MOST_CHOICES.false)) c.listing.ensures

@@ -1,25 +1,22 @@
 -- `encoder::answer::answer` meets its contract. One law for each way. Assumes nothing.
-use Rattle.std.proofs.Common.{arith, ap}
-use mathlib.Core.Bool.{not}
+use Rattle.std.proofs.Common.{arith}
 use Rattle.encoder.proofs.AnswerLaws.{answers-no-text, answers-no-list, answers-long-text, answers-long-list, answers-encoded}
 use Rattle.encoder.proofs.answer.answer.Goals as goal
+use Rattle.encoder.proofs.answer.answer.Goals.{in_default-via-in-Some+in_default, in_default-via-in_default}
 
-pub returns-then-not-text_found : goal.returns-then-not-text_found
-returns-then-not-text_found c =
-    let a = c.args in answers-no-text a.text_found a.list_found a.name.now a.text.now a.list.now _ _ c.requires.lent_bytes_in_bounds.1 _ _ _ c.told.ensures (ap not c.if-not-text_found.true) c.no_input.ensures
-
-pub returns-then-not-list_found : goal.returns-then-not-list_found
-returns-then-not-list_found c =
-    let a = c.args in answers-no-list a.text_found a.list_found a.name.now a.text.now a.list.now _ _ c.requires.lent_bytes_in_bounds.1 _ _ _ c.told-then-not-list_found.ensures (ap not c.if-not-text_found.false) (ap not c.if-not-list_found.true) c.no_input-then-not-list_found.ensures
+pub returns-in_default : goal.returns-in_default
+returns-in_default c = elim c.in_default.branch [
+  | in_default-via-in-Some+in_default w ↦ answers-no-list _ _ _ _ _ _ _ w.in_default.is-0 w.in_default.is-1 c.no_input.ensures
+  | in_default-via-in_default w ↦ answers-no-text _ _ _ _ _ _ w.in_default.is-0 c.no_input.ensures
+]
 
 pub returns-then-text-gt-MOST_TEXT : goal.returns-then-text-gt-MOST_TEXT
 returns-then-text-gt-MOST_TEXT c =
-    let a = c.args in answers-long-text a.text_found a.list_found a.name.now a.text.now a.list.now _ _ c.requires.lent_bytes_in_bounds.1 _ _ _ c.told-then-text-gt-MOST_TEXT.ensures (ap not c.if-not-text_found.false) (ap not c.if-not-list_found.false) c.if-text-gt-MOST_TEXT.true c.text_too_long.ensures
+    answers-long-text _ _ _ _ _ _ _ _ c.in-Some-Some.is-0 c.in-Some-Some.is-1 c.if-text-gt-MOST_TEXT.true c.text_too_long.ensures
 
 pub returns-then-list-gt-MOST_LIST : goal.returns-then-list-gt-MOST_LIST
 returns-then-list-gt-MOST_LIST c =
-    let a = c.args in answers-long-list a.text_found a.list_found a.name.now a.text.now a.list.now _ _ c.requires.lent_bytes_in_bounds.1 _ _ _ c.told-then-list-gt-MOST_LIST.ensures (ap not c.if-not-text_found.false) (ap not c.if-not-list_found.false) (omega (arith, c.if-text-gt-MOST_TEXT.false)) c.if-list-gt-MOST_LIST.true c.list_too_long.ensures
+    answers-long-list _ _ _ _ _ _ _ _ c.in-Some-Some.is-0 c.in-Some-Some.is-1 (omega (arith, c.if-text-gt-MOST_TEXT.false)) c.if-list-gt-MOST_LIST.true c.list_too_long.ensures
 
 pub returns : goal.returns
-returns c =
-    answers-encoded c.args.text_found c.args.list_found c.args.name.now c.args.text.now c.args.list.now _ _ _ _ _ (ap not c.if-not-text_found.false) (ap not c.if-not-list_found.false) c.encoding.ensures
+returns c = answers-encoded _ _ _ _ _ _ _ _ c.in-Some-Some.is-0 c.in-Some-Some.is-1 _ _ c.encoding.ensures

@@ -1,7 +1,6 @@
--- `encoder::answer::bad_list` meets its contract. Two lines in a row. Assumes nothing.
+-- `encoder::answer::bad_list` meets its contract. Two lines. Assumes nothing.
 use Rattle.encoder.proofs.AnswerLaws.{bad-list-wrote}
 use Rattle.encoder.proofs.answer.bad_list.Goals as goal
 
 pub returns : goal.returns
-returns c =
-    bad-list-wrote _ c.requires.in_bounds c.args.row c.args.why _ _ _ _ c.refused_line-a.ensures c.row_line.ensures
+returns c = bad-list-wrote c.args.bad.row _ _ _ _ c.refused_line.ensures c.row_line.ensures

@@ -1,5 +1,5 @@
--- `show::parts::put_cells` meets its contract. The invariant of its loop: the text of the first k cells stands. Assumes nothing.
-use Rattle.show.proofs.Turns.{counts-on, ends_at, ends-at-count, cells-none, cells-turn, cells-all}
+-- `show::parts::put_cells` meets its contract: the turns of its loop. Assumes nothing.
+use Rattle.show.proofs.Turns.{cells-none, cells-turn, cells-all}
 use Rattle.std.proofs.Common.{rules}
 use Rattle.show.proofs.parts.put_cells.Goals as goal
 
@@ -7,10 +7,7 @@ pub loop-k-init : goal.loop-k-init
 loop-k-init c = search (rules, cells-none)
 
 pub loop-k-preserved : goal.loop-k-preserved
-loop-k-preserved c = (search rules, search (rules, counts-on), search rules, search (rules, cells-turn))
+loop-k-preserved c = search (rules, cells-turn)
 
-pub returns-else-k-count : goal.returns-else-k-count
-returns-else-k-count c = search (rules, cells-all, ends-at-count)
-
-pub returns-after-loop-k : goal.returns-after-loop-k
-returns-after-loop-k c = search (rules, cells-all, ends_at)
+pub returns : goal.returns
+returns c = search (rules, cells-all)

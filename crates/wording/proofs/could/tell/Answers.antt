@@ -4,7 +4,7 @@ use Rattle.std.proofs.Common.{rules}
 use Rattle.wording.proofs.could.tell.Goals as goal
 
 pub returns-then-not-tells : goal.returns-then-not-tells
-returns-then-not-tells c = search (rules, told-not, told-so)
+returns-then-not-tells c = search (rules, told-not)
 
 pub returns : goal.returns
-returns c = search (rules, told-not, told-so)
+returns c = search (rules, told-so)

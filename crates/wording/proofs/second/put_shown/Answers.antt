@@ -1,10 +1,25 @@
--- `wording::second::put_shown` meets its contract. The bytes of a place, or the first of many. Assumes nothing.
+-- `wording::second::put_shown` meets its contract: the whole place, or its first bytes and a mark. Assumes nothing.
+use Rattle.std.proofs.Common.{rules, arith, sym, ◌≡◌, length, take}
+use lib.Seq.{length-take-le}
 use Rattle.wording.proofs.SecondLaws.{shown-all, shown-cut}
-use Rattle.std.proofs.Common.{rules}
 use Rattle.wording.proofs.second.put_shown.Goals as goal
 
-pub returns-then-n-place : goal.returns-then-n-place
-returns-then-n-place c = search (rules, shown-all, shown-cut)
+pub slice_bounds-put_text-end : goal.slice_bounds-put_text-end
+slice_bounds-put_text-end c = sym (length-take-le 64 c.args.place.now (omega (arith, c.if-place-le-MOST_SHOWN.false)))
 
-pub returns : goal.returns
-returns c = search (rules, shown-all, shown-cut)
+pub put_text-requires-else-place-le-MOST_SHOWN : goal.put_text-requires-else-place-le-MOST_SHOWN
+put_text-requires-else-place-le-MOST_SHOWN c =
+    let n = length-take-le 64 c.args.place.now (omega (arith, c.if-place-le-MOST_SHOWN.false)) in
+    omega (arith, n, c.requires)
+
+pub put_text-requires-else-place-le-MOST_SHOWN-2 : goal.put_text-requires-else-place-le-MOST_SHOWN-2
+put_text-requires-else-place-le-MOST_SHOWN-2 c =
+    let n = length-take-le 64 c.args.place.now (omega (arith, c.if-place-le-MOST_SHOWN.false)) in
+    let w = c.put_text-else-place-le-MOST_SHOWN.ensures in
+    omega (arith, n, c.requires, w.wrote.next, w.long)
+
+pub returns-then-place-le-MOST_SHOWN : goal.returns-then-place-le-MOST_SHOWN
+returns-then-place-le-MOST_SHOWN c = search (rules, shown-all)
+
+pub returns-else-place-le-MOST_SHOWN : goal.returns-else-place-le-MOST_SHOWN
+returns-else-place-le-MOST_SHOWN c = search (rules, shown-cut)

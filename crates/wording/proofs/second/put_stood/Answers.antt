@@ -9,5 +9,5 @@ returns-then-kind-eq0 c = search (rules, stood-end, stood-byte, stood-place)
 pub returns-then-number-eq22 : goal.returns-then-number-eq22
 returns-then-number-eq22 c = search (rules, stood-end, stood-byte, stood-place)
 
-pub returns : goal.returns
-returns c = search (rules, stood-end, stood-byte, stood-place)
+pub returns-else-number-eq22 : goal.returns-else-number-eq22
+returns-else-number-eq22 c = search (rules, stood-end, stood-byte, stood-place)

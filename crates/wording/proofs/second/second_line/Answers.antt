@@ -6,5 +6,5 @@ use Rattle.wording.proofs.second.second_line.Goals as goal
 pub returns-then-number-eq27 : goal.returns-then-number-eq27
 returns-then-number-eq27 c = search (rules, second-nodes, second-place)
 
-pub returns : goal.returns
-returns c = search (rules, second-nodes, second-place)
+pub returns-else-number-eq27 : goal.returns-else-number-eq27
+returns-else-number-eq27 c = search (rules, second-nodes, second-place)

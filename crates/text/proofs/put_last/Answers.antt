@@ -1,7 +1,0 @@
--- `text::put_last` meets its contract. The pair, and the end of the line. Assumes nothing.
-use Rattle.text.proofs.WroteLaws.{last-wrote}
-use Rattle.std.proofs.Common.{rules}
-use Rattle.text.proofs.put_last.Goals as goal
-
-pub returns : goal.returns
-returns c = search (rules, last-wrote)

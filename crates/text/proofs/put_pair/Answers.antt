@@ -1,7 +1,0 @@
--- `text::put_pair` meets its contract. Three pieces in a row. Assumes nothing.
-use Rattle.text.proofs.WroteLaws.{pair-wrote}
-use Rattle.std.proofs.Common.{rules}
-use Rattle.text.proofs.put_pair.Goals as goal
-
-pub returns : goal.returns
-returns c = search (rules, pair-wrote)
