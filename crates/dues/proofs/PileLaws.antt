@@ -1,5 +1,7 @@
 -- Words put on the stack one by one. Assumes nothing.
-use Prim.Native.Nat.{ℕ, zero, suc, ◌+◌, ◌<◌, ◌≤◌}
+use Prim.Native.Nat.{ℕ, zero, suc, ◌+◌, ◌<◌, ◌≤◌, min}
+use native.Mathlib.Nat.{min-eq_left, min-eq_right, min-le_right}
+use native.Mathlib.Decide.{dec_lt}
 use mathlib.Core.Path.{◌≡◌, refl, sym, ap, ◌∙◌}
 use mathlib.Core.List.{List, [], ◌∷◌}
 use Rattle.std.specs.Prelude.{reverse}
@@ -67,3 +69,25 @@ piled-next vs count i n entry exit p h few room =
     rw (add-one i, take-suc vs i 0 (omega arith), reverse-append (take i vs)) refl in
     let m : n + (i + 1) ≡ n + i + 1 = omega arith in
     rw (e, m, get_or-take count vs i 0 below) (piled-more (reverse (take i vs)) n (n + i) (get_or vs i 0) entry exit p (omega (arith, p.same_length)))
+
+whole : (ws : List ℕ) (n : ℕ) → length ws ≤ n → take n ws ≡ ws
+whole [] zero h = refl
+whole [] (suc n) h = refl
+whole (x ∷ ws) zero h = absurd (omega arith)
+whole (x ∷ ws) (suc n) h = ap (λ (l : List ℕ). x ∷ l) (whole ws n (omega arith))
+
+-- as many as there are, of however many are asked for
+take-most : (n : ℕ) (ws : List ℕ) → take (min n (length ws)) ws ≡ take n ws
+take-most n ws = go (dec_lt n (length ws))
+  where
+    go : Dec (n < length ws) → take (min n (length ws)) ws ≡ take n ws
+    go (yes h) = let l : n ≤ length ws = omega arith in rw (min-eq_left l)
+    go (no h) = let l : length ws ≤ n = omega arith in rw (min-eq_right l) (whole ws (length ws) (omega arith) ∙ sym (whole ws n l))
+
+pub piled-all : (ws : List ℕ) (n k i : ℕ) (entry exit : List ℕ) → length ws ≡ 4 → i ≤ length (take (min k 4) ws) → length (take (min k 4) ws) ≤ i
+    → Piled (reverse (take i ws)) n (n + i) entry exit → Piled (reverse (take k ws)) n (n + min k 4) entry exit
+piled-all ws n k i entry exit four below above p =
+    let few : min k 4 ≤ length ws = rw four (min-le_right k 4) in
+    let e : i ≡ min k 4 = omega (arith, length-take-le (min k 4) ws few) in
+    let all : take (min k 4) ws ≡ take k ws = rw four at (take-most k ws) in
+    rw (e, all) at p

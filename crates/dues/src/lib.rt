@@ -2,8 +2,6 @@
 // word: its number, and above it its tag and its name (module Words). Zero is nothing.
 #![tactic(auto)]
 
-ghost use Rattle.std.specs.Prelude.{◌≤◌};
-
 mod deeds;
 mod groups;
 mod kinds;
@@ -18,12 +16,11 @@ pub struct Made {
     pub value: u32,
 }
 
-/// Things due, the next one last: the first `count` of these words.
+/// Things due, the next one last: the first `count` of these words; of more than four, the four.
 #[derive(Clone, Copy)]
 pub struct Dues {
     pub count: usize,
     pub words: [u32; 4],
-    ghost few: { count ≤ 4 },
 }
 
 /// What a token does to what is due: it is taken, and these are due instead; or nothing is due here any more; or it is refused.

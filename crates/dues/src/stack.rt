@@ -53,8 +53,9 @@ pub fn put(ws: &mut [u32], n: usize, dues: Dues) -> usize
     requires { n + 4 ≤ length ws.old }
     ensures { Piled (due_words dues) n result ws.old ws.new }
 {
-    for (i, word) in dues.words[..dues.count].iter().enumerate() {
+    let count = dues.count.min(4);
+    for (i, word) in dues.words[..count].iter().enumerate() {
         ws[n + i] = *word;
     }
-    n + dues.count
+    n + count
 }
