@@ -126,21 +126,21 @@ one-narrowed codes words i k n h =
 
 -- ---- the image goes out
 
-pub image-out : (s : Nodes) (codes img' out out' : List ℕ) (names : ℕ)
-    → length codes ≤ most_fields → s.start ≡ 10 + 2 * length codes → s.count ≤ most_nodes
-    → img' ≡ sets s.image 0 (head_bytes codes s.count names)
-    → out' ≡ take (s.start + 8 * s.count) img' ++ drop (s.start + 8 * s.count) out
-    → Out s codes names (s.start + 8 * s.count) out out'
-image-out s codes img' out out' names h b i e o =
+pub image-out : (img codes img' out out' : List ℕ) (nodes names : ℕ)
+    → length img ≡ most_bytes → length codes ≤ most_fields → nodes ≤ most_nodes
+    → img' ≡ sets img 0 (head_bytes codes nodes names)
+    → out' ≡ take (10 + 2 * length codes + 8 * nodes) img' ++ drop (10 + 2 * length codes + 8 * nodes) out
+    → Out nodes names (10 + 2 * length codes + 8 * nodes) codes img out out'
+image-out img codes img' out out' nodes names l h i e o =
     record {
       bytes = refl;
-      shows = λ js t c.
-          let n = length-sets s.image 0 (head_bytes codes s.count names) in
-          let long : length img' ≡ most_bytes = ap length e ∙ n ∙ s.roomy.bytes in
-          let it : take (s.start + 8 * s.count) img' ≡ image codes (nodes_in (link js)) names =
-          rw (← c) (tabled-image js codes names s.start s.image s.firsts img' t b (omega (arith, s.roomy.bytes)) (rw c e)) in
+      shows = λ js firsts t c.
+          let n = length-sets img 0 (head_bytes codes nodes names) in
+          let long : length img' ≡ most_bytes = ap length e ∙ n ∙ l in
+          let it : take (10 + 2 * length codes + 8 * nodes) img' ≡ image codes (nodes_in (link js)) names =
+          rw (← c) (tabled-image js codes names (10 + 2 * length codes) img firsts img' t refl (omega (arith, l)) (rw c e)) in
           record {
-            long = sym (ap length it) ∙ length-take-le (s.start + 8 * s.count) img' (omega arith);
-            is = o ∙ ap (λ (x : List ℕ). x ++ drop (s.start + 8 * s.count) out) it;
+            long = sym (ap length it) ∙ length-take-le (10 + 2 * length codes + 8 * nodes) img' (omega arith);
+            is = o ∙ ap (λ (x : List ℕ). x ++ drop (10 + 2 * length codes + 8 * nodes) out) it;
           };
     }

@@ -47,6 +47,6 @@ pub record Shows (names n : ℕ) (js : List Item) (codes out out' : List ℕ) : 
   pub is : out' ≡ image codes (nodes_in (link js)) names ++ drop n out
 
 -- whichever nodes stand behind the place of the codes
-pub record Out (s : Nodes) (codes : List ℕ) (names n : ℕ) (out out' : List ℕ) : Type 0 where
-  pub bytes : n ≡ s.start + 8 * s.count
-  pub shows : (js : List Item) → Tabled js s.start s.image s.firsts → length js ≡ s.count → Shows names n js codes out out'
+pub record Out (nodes names n : ℕ) (codes img out out' : List ℕ) : Type 0 where
+  pub bytes : n ≡ 10 + 2 * length codes + 8 * nodes
+  pub shows : (js : List Item) (firsts : List ℕ) → Tabled js (10 + 2 * length codes) img firsts → length js ≡ nodes → Shows names n js codes out out'

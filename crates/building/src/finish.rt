@@ -1,8 +1,10 @@
 // The end of a text: may it end there, and are its nodes few enough. Then the codes as words, and the image goes out.
-ghost use Rattle.std.specs.Prelude.{◌≡◌, ◌+◌, ◌*◌, map, ◌%◌, ◌≤◌, length};
+ghost use Rattle.std.specs.Prelude.{◌≡◌, map, ◌%◌, ◌≤◌, length};
+ghost use Rattle.std.proofs.lemmas.List.Edits.{sets};
 ghost use Rattle.rules.specs.Image.{most_fields, most_nodes, most_names};
 ghost use Rattle.grammar.specs.Reads.{most_bytes};
 ghost use Rattle.dues.specs.Stack.{Standing};
+ghost use Rattle.tables.specs.Tabled.{head_bytes};
 ghost use Rattle.building.specs.Finish.{EndSaysAll, Out};
 
 use crate::nodes::{MOST_NODES, Nodes, all_pass};
@@ -34,16 +36,32 @@ impl Nodes {
 
     /// The head with these codes goes before the nodes, and all of it out, of which the length is answered.
     pub fn put_image(&mut self, codes: &[u16], names: usize, out: &mut [u8]) -> usize
-        requires codes_fit { (length codes.now ≤ most_fields) × (self.old.start ≡ 10 + 2 * length codes.now) }
+        requires few_codes { length codes.now ≤ most_fields }
         requires few { (self.old.count ≤ most_nodes) × (names ≤ most_names) }
         requires room { most_bytes ≤ length out.old }
-        ensures { Out self.old codes.now names result out.old out.new }
+        ensures { Out self.old.count names result codes.now self.old.image out.old out.new }
     {
-        tables::head::put_head(&mut self.image, codes, self.count, names);
-        let n = self.start + 8 * self.count;
-        out[..n].copy_from_slice(&self.image[..n]);
-        n
+        put_image(&mut self.image, codes, self.count, names, out)
     }
+}
+
+/// The head goes before the nodes of an image that begin behind the place of these codes, and all of it out, of which the length is answered.
+pub fn put_image(
+    img: &mut [u8],
+    codes: &[u16],
+    nodes: usize,
+    names: usize,
+    out: &mut [u8],
+) -> usize
+    requires img_len { (length img.old ≡ most_bytes) × (most_bytes ≤ length out.old) }
+    requires few { (length codes.now ≤ most_fields) × (nodes ≤ most_nodes) × (names ≤ most_names) }
+    ensures head { img.new ≡ sets img.old 0 (head_bytes codes.now nodes names) }
+    ensures out { Out nodes names result codes.now img.old out.old out.new }
+{
+    tables::head::put_head(img, codes, nodes, names);
+    let n = 10 + 2 * codes.len() + 8 * nodes;
+    out[..n].copy_from_slice(&img[..n]);
+    n
 }
 
 /// The codes of a list that is right are below 65,536.

@@ -4,9 +4,10 @@ use mathlib.Core.Path.{◌≡◌, refl, sym, ap, subst, ◌∙◌}
 use mathlib.Core.Bool.{Bool, true, false}
 use mathlib.Core.List.{List, [], ◌∷◌, ◌++◌, map}
 use native.Mathlib.Omega.{arith}
-use lib.ListN.{length, get_or, take, drop, set, replicate}
+use lib.ListN.{length, get_or, take, drop, set, replicate, length-map}
 use lib.Dec.{ltb}
 use borrow.Author.Tests.{lt-ltb, le-ltb, ltb-true, ltb-false}
+use Rattle.laws.specs.UpTo.{length-up_to}
 use Rattle.rules.specs.Published.{image}
 use Rattle.grammar.specs.Classes.{among}
 use Rattle.grammar.specs.FieldList.{Entry, code_of}
@@ -68,6 +69,10 @@ told-of {list} {text} {rows} {ws} {ws₁} {ws₂} {s} {t} {r} b k =
     (subst (λ (x : List ℕ). Tells list x s.rows.now s.nodes.start ws₁ r t ws₂) b.its-text
     (subst (λ (x : List ℕ). Tells x s.text.now s.rows.now s.nodes.start ws₁ r t ws₂) b.its-list k.tells)))
 
+entries-long : (list : List ℕ) (rows : FieldRows) → length (entries_of list rows) ≡ rows.count
+unfolding entries_of
+entries-long list rows = length-up_to _ rows.count
+
 module _
     (list text : List ℕ) (rows : FieldRows) (right : RightRows list rows) (start : ℕ) (ws ws₁ ws₂ ws' out : List ℕ) (t : Reading)
     (past : drop (words_for (length text)) ws₁ ≡ drop (words_for (length text)) ws)
@@ -75,14 +80,16 @@ module _
   where
     pub handed : (n : ℕ) (codes out' : List ℕ) (u : Unit {0})
         → Tells list text rows start ws₁ (Ok u) t ws₂
-        → t.nodes.start ≡ start
+        → start ≡ 10 + 2 * rows.count
         → codes ≡ take rows.count (map (λ c. c % 65536) rows.codes)
-        → Out t.nodes codes t.names n out out'
+        → Out t.nodes.count t.names n codes t.nodes.image out out'
         → Handed list text rows n ws out ws' out'
     handed n codes out' u h b d o =
         let s = h.finds in
-        let shown = o.shows s.items (subst (λ (j : ℕ). Tabled s.items j t.nodes.image t.nodes.firsts) (sym b) s.tabled) (sym s.counted) in
         let k : codes ≡ map code_of (entries_of list rows) = d ∙ narrow-codes list rows right in
+        let many : length codes ≡ rows.count = ap length k ∙ length-map (entries_of list rows) code_of ∙ entries-long list rows in
+        let behind : start ≡ 10 + 2 * length codes = b ∙ ap (λ (j : ℕ). 10 + 2 * j) (sym many) in
+        let shown = o.shows s.items t.nodes.firsts (subst (λ (j : ℕ). Tabled s.items j t.nodes.image t.nodes.firsts) behind s.tabled) (sym s.counted) in
         record {
           img = image (map code_of (entries_of list rows)) (nodes_in (link s.items)) t.names;
           read = s.read;
