@@ -77,8 +77,8 @@ const SHORT_WORK: ReadError = ReadError {
 };
 
 /// Reads a written script: the length of its image, which stands in the first bytes of `out` then. `work` has three words for each byte of the text and
-/// four at least, and `out` 16,426 bytes; these lengths are looked at first (28, 20), then the list of fields (21), then the text. A refusal
-/// leaves `out` as it was.
+/// four more, or more still, and `out` 16,426 bytes or more; these lengths are looked at first (20 for `out`, then 28), then the list of fields (21),
+/// then the text. A refusal leaves `out` as it was.
 pub fn read(text: &[u8], list: &[u8], work: &mut [u32], out: &mut [u8]) -> Result<usize, ReadError>
     ensures { ReadSays list.now text.now result work.old out.old work.new out.new }
 {
