@@ -46,13 +46,7 @@ impl Nodes {
 }
 
 /// The head goes before the nodes of an image that begin behind the place of these codes, and all of it out, of which the length is answered.
-pub fn put_image(
-    img: &mut [u8],
-    codes: &[u16],
-    nodes: usize,
-    names: usize,
-    out: &mut [u8],
-) -> usize
+pub fn put_image(img: &mut [u8], codes: &[u16], nodes: usize, names: usize, out: &mut [u8]) -> usize
     requires img_len { (length img.old ≡ most_bytes) × (most_bytes ≤ length out.old) }
     requires few { (length codes.now ≤ most_fields) × (nodes ≤ most_nodes) × (names ≤ most_names) }
     ensures head { img.new ≡ sets img.old 0 (head_bytes codes.now nodes names) }
