@@ -1,12 +1,7 @@
 -- Words put on the stack one by one. Assumes nothing.
-use Prim.Native.Nat.{ℕ, zero, suc, ◌+◌, ◌<◌, ◌≤◌, min}
-use native.Mathlib.Nat.{min-eq_left, min-eq_right, min-le_right}
-use native.Mathlib.Decide.{dec_lt}
+use Prim.Native.Nat.{ℕ, zero, suc, ◌+◌, ◌<◌, ◌≤◌}
 use mathlib.Core.Path.{◌≡◌, refl, sym, ap, ◌∙◌}
 use mathlib.Core.List.{List, [], ◌∷◌}
-use Rattle.std.specs.Prelude.{reverse}
-use Rattle.std.proofs.lemmas.List.{reverse-append}
-use lib.Seq.{take-suc, get_or-take, length-take-le}
 use native.Mathlib.Omega.{arith}
 use native.Mathlib.Numerals.{add-one}
 use lib.ListN.{length, get_or, take, drop, set, length-set}
@@ -59,35 +54,14 @@ piled-more vs n m w entry exit p h =
       past = past-set exit m w ∙ further exit entry m p.past;
     })
 
--- the i-th of these words goes on those before it
-pub piled-next : (vs : List ℕ) (count i n : ℕ) (entry exit : List ℕ) → Piled (reverse (take i vs)) n (n + i) entry exit
-    → i < length (take count vs) → count ≤ length vs → n + count ≤ length entry
-    → Piled (reverse (take (i + 1) vs)) n (n + (i + 1)) entry (set exit (n + i) (get_or (take count vs) i 0))
-piled-next vs count i n entry exit p h few room =
-    let below : i < count = omega (arith, h, length-take-le count vs few) in
-    let e : reverse (take (i + 1) vs) ≡ get_or vs i 0 ∷ reverse (take i vs) =
-    rw (add-one i, take-suc vs i 0 (omega arith), reverse-append (take i vs)) refl in
-    let m : n + (i + 1) ≡ n + i + 1 = omega arith in
-    rw (e, m, get_or-take count vs i 0 below) (piled-more (reverse (take i vs)) n (n + i) (get_or vs i 0) entry exit p (omega (arith, p.same_length)))
-
-whole : (ws : List ℕ) (n : ℕ) → length ws ≤ n → take n ws ≡ ws
-whole [] zero h = refl
-whole [] (suc n) h = refl
-whole (x ∷ ws) zero h = absurd (omega arith)
-whole (x ∷ ws) (suc n) h = ap (λ (l : List ℕ). x ∷ l) (whole ws n (omega arith))
-
--- as many as there are, of however many are asked for
-take-most : (n : ℕ) (ws : List ℕ) → take (min n (length ws)) ws ≡ take n ws
-take-most n ws = go (dec_lt n (length ws))
+-- four of four, however many are asked for
+pub all-four : (n a b c d : ℕ) → 4 ≤ n → take n (a ∷ b ∷ c ∷ d ∷ []) ≡ a ∷ b ∷ c ∷ d ∷ []
+all-four zero a b c d h = absurd (omega arith)
+all-four (suc zero) a b c d h = absurd (omega arith)
+all-four (suc (suc zero)) a b c d h = absurd (omega arith)
+all-four (suc (suc (suc zero))) a b c d h = absurd (omega arith)
+all-four (suc (suc (suc (suc n)))) a b c d h = ap (λ (l : List ℕ). a ∷ b ∷ c ∷ d ∷ l) (none n)
   where
-    go : Dec (n < length ws) → take (min n (length ws)) ws ≡ take n ws
-    go (yes h) = let l : n ≤ length ws = omega arith in rw (min-eq_left l)
-    go (no h) = let l : length ws ≤ n = omega arith in rw (min-eq_right l) (whole ws (length ws) (omega arith) ∙ sym (whole ws n l))
-
-pub piled-all : (ws : List ℕ) (n k i : ℕ) (entry exit : List ℕ) → length ws ≡ 4 → i ≤ length (take (min k 4) ws) → length (take (min k 4) ws) ≤ i
-    → Piled (reverse (take i ws)) n (n + i) entry exit → Piled (reverse (take k ws)) n (n + min k 4) entry exit
-piled-all ws n k i entry exit four below above p =
-    let few : min k 4 ≤ length ws = rw four (min-le_right k 4) in
-    let e : i ≡ min k 4 = omega (arith, length-take-le (min k 4) ws few) in
-    let all : take (min k 4) ws ≡ take k ws = rw four at (take-most k ws) in
-    rw (e, all) at p
+    none : (n : ℕ) → take {A = ℕ} n [] ≡ []
+    none zero = refl
+    none (suc n) = refl

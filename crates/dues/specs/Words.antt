@@ -1,6 +1,6 @@
 -- What is due, in words: each thing due has a number, with its tag and its name above it, and zero is none of them. What a token does, as the
 -- code answers it, is read back from its answer and compared with the table of `reading`. Assumes nothing.
-use Rattle.std.specs.Prelude.{ℕ, ◌+◌, ◌*◌, ◌/◌, ◌%◌, ◌<◌, ◌≡◌, List, [], ◌∷◌, ◌++◌, map, get_or, take as first_of, reverse, Option, Some, None}
+use Rattle.std.specs.Prelude.{ℕ, ◌+◌, ◌*◌, ◌/◌, ◌%◌, ◌<◌, ◌≡◌, List, [], ◌∷◌, ◌++◌, map, get_or, take as first_of, Option, Some, None}
 use Rattle.std.proofs.Math.Option.{Option as Maybe, none, some}
 use Rattle.reading.specs.Items.{Item, put}
 use Rattle.reading.specs.Table.{Due, command, body, var_name, var_semi, malloc_open, malloc_name, atom_open, middle, shut, otherwise, close, close_node, node, test, test_left, test_minus, operand, negative, name_first, first, first_dot, first_dotted, first_minus, becomes_due, expression, sel, sel_dot, after_minus, sel_minus, sel_minus_dot, proc_name, proc_colon, Act, take, pass, refuse, does}
@@ -105,9 +105,8 @@ abbrev pub made_items : Option Made → List Item
 made_items None = []
 made_items (Some m) = put m.tag m.value ∷ []
 
--- the next one first; there are at most four
 abbrev pub due_words : Dues → List ℕ
-due_words d = reverse (first_of d.count d.words)
+due_words d = first_of d.count (d.a ∷ d.b ∷ d.c ∷ d.d ∷ [])
 
 -- what a token does, with what is due in words
 pub data WordAct : Type 0 where

@@ -19,7 +19,10 @@ pub fn none_due() -> Dues
 {
     Dues {
         count: 0,
-        words: [0, 0, 0, 0],
+        a: 0,
+        b: 0,
+        c: 0,
+        d: 0,
     }
 }
 
@@ -29,7 +32,10 @@ pub fn one_due(a: u32) -> Dues
 {
     Dues {
         count: 1,
-        words: [a, 0, 0, 0],
+        a,
+        b: 0,
+        c: 0,
+        d: 0,
     }
 }
 
@@ -39,7 +45,10 @@ pub fn two_due(a: u32, b: u32) -> Dues
 {
     Dues {
         count: 2,
-        words: [b, a, 0, 0],
+        a,
+        b,
+        c: 0,
+        d: 0,
     }
 }
 
@@ -48,7 +57,10 @@ pub fn three_due(a: u32, b: u32, c: u32) -> Dues
 {
     Dues {
         count: 3,
-        words: [c, b, a, 0],
+        a,
+        b,
+        c,
+        d: 0,
     }
 }
 
@@ -58,10 +70,13 @@ pub fn before(a: u32, rest: Dues) -> Dues
     ensures result_value { due_words result ≡ a ∷ due_words rest }
     ensures count_value { result.count ≡ rest.count + 1 }
 {
-    let mut all = rest;
-    all.words[rest.count] = a;
-    all.count += 1;
-    all
+    Dues {
+        count: rest.count + 1,
+        a,
+        b: rest.a,
+        c: rest.b,
+        d: rest.c,
+    }
 }
 
 // the token is taken, and this is due instead

@@ -16,11 +16,15 @@ pub struct Made {
     pub value: u32,
 }
 
-/// Things due, the next one last: the first `count` of these words; of more than four, the four.
+/// Things due, the next one first: the first `count` of these words; of more than four, the four.
+// No array: a struct with one is handed on through memory, and a read took a sixth more instructions.
 #[derive(Clone, Copy)]
 pub struct Dues {
     pub count: usize,
-    pub words: [u32; 4],
+    pub a: u32,
+    pub b: u32,
+    pub c: u32,
+    pub d: u32,
 }
 
 /// What a token does to what is due: it is taken, and these are due instead; or nothing is due here any more; or it is refused.

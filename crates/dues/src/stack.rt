@@ -48,14 +48,38 @@ pub fn taker(ws: &[u32], depth: usize, k: u32) -> Option<usize>
     None
 }
 
+// One word on the n that are there.
+fn push(ws: &mut [u32], n: usize, w: u32) -> usize
+    requires { n < length ws.old }
+    ensures by_index { (vs : List ℕ) (m : ℕ) (entry : List ℕ) → Piled vs m n entry ws.old → Piled (w ∷ vs) m result entry ws.new }
+    ensures value { (result ≡ n + 1) × (length ws.new ≡ length ws.old) }
+{
+    ws[n] = w;
+    n + 1
+}
+
 /// These on the n that are there, the first of them on top.
 pub fn put(ws: &mut [u32], n: usize, dues: Dues) -> usize
     requires { n + 4 ≤ length ws.old }
     ensures { Piled (due_words dues) n result ws.old ws.new }
 {
-    let count = dues.count.min(4);
-    for (i, word) in dues.words[..count].iter().enumerate() {
-        ws[n + i] = *word;
+    match dues.count {
+        0 => n,
+        1 => push(ws, n, dues.a),
+        2 => {
+            let p = push(ws, n, dues.b);
+            push(ws, p, dues.a)
+        }
+        3 => {
+            let p = push(ws, n, dues.c);
+            let q = push(ws, p, dues.b);
+            push(ws, q, dues.a)
+        }
+        _ => {
+            let p = push(ws, n, dues.d);
+            let q = push(ws, p, dues.c);
+            let s = push(ws, q, dues.b);
+            push(ws, s, dues.a)
+        }
     }
-    n + count
 }

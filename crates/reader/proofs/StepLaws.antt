@@ -33,7 +33,6 @@ use Rattle.letters.specs.Says.{Found, piece_by}
 use Rattle.fieldlist.specs.declared.FieldRows.{FieldRows}
 use Rattle.std.specs.Prelude.{Option as Answered, Some, None}
 use Rattle.std.specs.Option.{ForSome}
-use Rattle.std.proofs.lemmas.List.{length-reverse}
 use Rattle.fieldlist.specs.declared.names.Span.{Span}
 use Rattle.fieldlist.specs.Names.{Spans, words}
 use Rattle.fieldlist.specs.Answer.{entries_of}
@@ -163,13 +162,16 @@ small-name fields ns (marked m) {t} e k l = let j : mark m ≡ t = cc in rw (←
 small-name fields ns (bad_byte b) {t} e k l = absurd (let z : ◌≡◌ {A = ℕ} 1 0 = cc in omega arith)
 
 -- four things due at most come instead
-four-at-most : (d : Dues) → length (due_words d) ≤ 4
-four-at-most d = omega (arith, length-reverse (first_of d.count d.words), take-at-most d.count d.words, d.few)
+four-at-most : (j a b c d : ℕ) → length (first_of j (a ∷ b ∷ c ∷ d ∷ [])) ≤ 4
+four-at-most zero a b c d = omega arith
+four-at-most (suc zero) a b c d = omega arith
+four-at-most (suc (suc zero)) a b c d = omega arith
+four-at-most (suc (suc (suc zero))) a b c d = omega arith
+four-at-most (suc (suc (suc (suc j)))) a b c d = rw (none j) (omega arith)
   where
-    take-at-most : (n : ℕ) (l : List ℕ) → length (first_of n l) ≤ n
-    take-at-most zero l = omega arith
-    take-at-most (suc n) [] = omega arith
-    take-at-most (suc n) (x ∷ l) = omega (arith, take-at-most n l)
+    none : (j : ℕ) → first_of {A = ℕ} j [] ≡ []
+    none zero = refl
+    none (suc j) = refl
 
 -- ---- a token that is taken, where the reader stands
 
@@ -229,7 +231,7 @@ module _
           → TakeSays r.kind q depth start m d x depth' m' ws img firsts ws' img' firsts'
           → Under list text rows r.to r.line n' depth' start m' spans' ws₀ ws' img' firsts'
       taken-under {depth' = depth'} {ws' = ws'} o l fw sp sl ns k =
-          let four = four-at-most d in
+          let four = four-at-most d.count d.a d.b d.c d.d in
           let deep : depth' ≤ 3 * r.to + 1 = omega (arith, k.piled.count, four, taken-depth t, u.shallow, f.not-before, f.not-empty) in
           let fits : depth' ≤ words_for (length text) = omega (arith, deep, f.within) in
           record {
