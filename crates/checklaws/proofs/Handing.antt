@@ -34,7 +34,7 @@ use Rattle.checklaws.proofs.BitLaws.{shows-none}
 
 -- ---- the lists
 
-given-long : (p : Role) (w v : ℕ) (t : List ℕ) → length (given p w v t) ≡ length t
+pub given-long : (p : Role) (w v : ℕ) (t : List ℕ) → length (given p w v t) ≡ length t
 given-long Unused w v t = refl
 given-long Index w v t = refl
 given-long Half w v t = refl

@@ -15,24 +15,38 @@ ghost use Rattle.checklaws.specs.Pieces.{names_say};
 ghost use Rattle.checklaws.specs.Hands.{Formed, stray_at};
 ghost use Rattle.rules.proofs.StrayRows.{stray_word, grow_word};
 ghost use Rattle.checklaws.specs.Bits.{Shows, NameFits, given, given_all, Shown, Visited};
+ghost use Rattle.namecheck.specs.Places.{HasPlace};
 
 use image::{Image, Refusal};
 use rules::{Node, Role, Row};
 
+// Is name x among these? The half with its bit is looked at alone: a shift of one word of the machine is one instruction, of a number
+// of two words some ten.
 #[tactic(auto, using(checklaws::proofs::BitLaws::bits))]
 fn has(names: u128, x: usize) -> bool
     requires { x < 128 }
     ensures { (visible : Names) → Shows names visible → result ≡ has x visible }
 {
-    (names >> x) & 1 == 1
+    if x < 64 {
+        let low = (names % (1 << 64)) as u64;
+        (low >> x) & 1 == 1
+    } else {
+        let high = (names >> 64) as u64;
+        (high >> (x - 64)) & 1 == 1
+    }
 }
 
+// These names and name x, its bit shifted within its half, as in `has`.
 #[tactic(auto, using(checklaws::proofs::BitLaws::bits))]
 fn with(names: u128, x: usize) -> u128
     requires { x < 128 }
     ensures { (visible : Names) → Shows names visible → Shows result (x ∷ visible) }
 {
-    names | (1 << x)
+    if x < 64 {
+        names | u128::from(1u64 << x)
+    } else {
+        names | (u128::from(1u64 << (x - 64)) << 64)
+    }
 }
 
 // Does this word use a name that isn't visible?
@@ -56,19 +70,24 @@ fn grown(role: Role, word: usize, names: u128) -> u128
     }
 }
 
-// A word that is a child: it is given these names.
-#[tactic(auto, using(checklaws::proofs::Handing::giving))]
+// A word that is a child: it is given these names. It is known to have a place, so that isn't asked at each word.
+#[tactic(auto, using(checklaws::proofs::Handing::giving, crate::proofs::Places::places))]
 fn give(held: &mut [u128], role: Role, word: usize, names: u128)
+    requires { HasPlace role word (length held.old) }
     ensures { held.new ≡ given role word names held.old }
 {
-    if matches!(role, Role::Child(_)) && word < held.len() {
+    if matches!(role, Role::Child(_)) {
         held[word] = names;
     }
 }
 
+#[tactic(auto, using(crate::proofs::Places::places))]
 fn visit_row(held: &mut [u128], n: usize, node: Node, row: Row) -> bool
     requires n_in_bounds { n < length held.old }
     requires name_fits { NameFits row.a node.a }
+    requires a_place { HasPlace row.a node.a (length held.old) }
+    requires b_place { HasPlace row.b node.b (length held.old) }
+    requires c_place { HasPlace row.c node.c (length held.old) }
     ensures { Visited row node n held.old held.new result }
 {
     let visible = held[n];
@@ -81,13 +100,14 @@ fn visit_row(held: &mut [u128], n: usize, node: Node, row: Row) -> bool
 }
 
 // Node n hands its names down; does it stray?
-fn visit(image: &Image, held: &mut [u128], n: usize) -> bool
-    requires formed { Formed image.now }
-    requires n_bound { n < nodes_of image.now }
-    requires roomy { nodes_of image.now ≤ length held.old }
-    ensures { (visible : Names) → Shown visible image.now (n + 1) held.old → (result ≡ stray_at visible image.now n) × Shown visible image.now n held.new }
+#[tactic(auto, using(crate::proofs::Shapes::shapes, crate::proofs::Places::places))]
+fn visit(bytes: &[u8], held: &mut [u128], n: usize) -> bool
+    requires formed { Formed bytes.now }
+    requires n_bound { n < nodes_of bytes.now }
+    requires roomy { nodes_of bytes.now ≤ length held.old }
+    ensures { (visible : Names) → Shown visible bytes.now (n + 1) held.old → (result ≡ stray_at visible bytes.now n) × Shown visible bytes.now n held.new }
 {
-    let node = image.read(n);
+    let node = image::read(bytes, n);
     match image::operands(node.tag) {
         None => false,
         Some(row) => visit_row(held, n, node, row),
@@ -95,14 +115,14 @@ fn visit(image: &Image, held: &mut [u128], n: usize) -> bool
 }
 
 #[tactic(auto, using(checklaws::proofs::Formed::downward))]
-fn from_last(image: &Image, held: &mut [u128]) -> Result<(), Refusal>
-    requires formed { Formed image.now }
-    requires roomy { nodes_of image.now ≤ length held.old }
-    ensures { (visible : Names) → Shown visible image.now (nodes_of image.now) held.old → verdict_of result ≡ names_say visible image.now (nodes_of image.now) }
+fn from_last(bytes: &[u8], held: &mut [u128]) -> Result<(), Refusal>
+    requires formed { Formed bytes.now }
+    requires roomy { nodes_of bytes.now ≤ length held.old }
+    ensures { (visible : Names) → Shown visible bytes.now (nodes_of bytes.now) held.old → verdict_of result ≡ names_say visible bytes.now (nodes_of bytes.now) }
 {
     let mut lowest = Ok(());
-    for n in (0..image.nodes()).rev() {
-        if visit(image, held, n) {
+    for n in (0..image::nodes(bytes)).rev() {
+        if visit(bytes, held, n) {
             lowest = Err(Refusal::Name(n as u32));
         }
     }
@@ -110,15 +130,15 @@ fn from_last(image: &Image, held: &mut [u128]) -> Result<(), Refusal>
 }
 
 // With room for N nodes: the root, which is the last node, is given the names visible there, and no other node any.
-fn with_room<const N: usize>(image: &Image, visible: u128) -> Result<(), Refusal>
-    requires formed { Formed image.now }
-    requires roomy { nodes_of image.now ≤ N }
+fn with_room<const N: usize>(bytes: &[u8], visible: u128) -> Result<(), Refusal>
+    requires formed { Formed bytes.now }
+    requires roomy { nodes_of bytes.now ≤ N }
     requires few { N ≤ 2048 }
-    ensures { (names : Names) → Shows visible names → verdict_of result ≡ names_say names image.now (nodes_of image.now) }
+    ensures { (names : Names) → Shows visible names → verdict_of result ≡ names_say names bytes.now (nodes_of bytes.now) }
 {
     let mut held = [0; N];
-    held[image.nodes() - 1] = visible;
-    from_last(image, &mut held)
+    held[image::nodes(bytes) - 1] = visible;
+    from_last(bytes, &mut held)
 }
 
 /// Is each name declared where it is used? `visible` are the names visible at the root: bit x is name x.
@@ -127,9 +147,11 @@ pub fn all_names(image: &Image, visible: u128) -> Result<(), Refusal>
     requires { Formed image.now }
     ensures { (names : Names) → Shows visible names → verdict_of result ≡ names_say names image.now (nodes_of image.now) }
 {
-    if image.nodes() <= 256 {
-        with_room::<256>(image, visible)
+    // The loop is given the bytes: behind `image`, their pointer would be loaded anew at each node, since `held` is written.
+    let bytes = image.bytes;
+    if image::nodes(bytes) <= 256 {
+        with_room::<256>(bytes, visible)
     } else {
-        with_room::<2048>(image, visible)
+        with_room::<2048>(bytes, visible)
     }
 }
