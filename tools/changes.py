@@ -2,7 +2,7 @@
 """Prints, as tables in Markdown, each public signature, clause, type, definition and theorem that differs between a commit and the working tree.
 
 usage: changes.py COMMIT      at the top of the repository
-A theorem stands here where it stands in specs/, or where README.md or docs/ name it."""
+A theorem stands here where it stands in specs/, or where README.md or docs/ name it; one in a module of a file of proofs with that module's parameters."""
 import os, re, subprocess, sys
 
 commit = sys.argv[1]
@@ -43,6 +43,26 @@ def module(path):
     return crate + ("" if rest in ("lib", "main", "Lib") else "::" + rest.replace("/", "::"))
 
 
+def within_modules(text):
+    """(name, text) of each theorem that stands in a module of its file, with the modules around it."""
+    around, lines = [], text.split("\n")
+    for i, line in enumerate(lines):
+        if not line.strip() or line.lstrip().startswith("--"):
+            continue
+        indent = len(line) - len(line.lstrip())
+        around = [(n, m) for n, m in around if n < indent]
+        if re.match(r"\s*module ", line):
+            around.append((indent, line.strip()))
+        head = re.match(r"\s+pub ([^\s:(){}]+)", line)
+        if head and around:
+            body = [line]
+            for more in lines[i + 1:]:
+                if not more.strip() or re.match(rf"\s*(?:unfolding\b|{re.escape(head.group(1))}(?:\s|$))", more):
+                    break
+                body.append(more)
+            yield head.group(1), flat(" ".join(m for n, m in around) + " " + "\n".join(body))
+
+
 def items(files):
     """(kind, name) -> text, for what callers and contracts see."""
     out = {}
@@ -79,13 +99,18 @@ def items(files):
                 m = re.match(r"pub (struct|enum|const|static|trait) (\w+)", line)
                 if m:
                     j = i
+                    while i and lines[i - 1].startswith("#["):
+                        i -= 1
                     if not line.rstrip().endswith((";", "}")):
                         while not lines[j].startswith(("}", "];", ");")):
                             j += 1
                     out[("type", f"{where}::{m.group(2)}")] = flat("\n".join(lines[i:j + 1]))[:700]
+                    i = j
                 i += 1
         elif path.endswith(".antt") and ("/specs/" in path or "/proofs/" in path):
             kind = "definition" if "/specs/" in path else "theorem"
+            if kind == "theorem":
+                out.update(((kind, f"{where}::{name}"), body) for name, body in within_modules(text))
             block = []
             for line in text.split("\n") + ["", "x"]:
                 if line and not line[0].isspace() and not line.startswith("--") and block and not re.match(r"unfolding |where", line):
@@ -118,7 +143,7 @@ def main():
     old, new = items(old_files()), items(new_files())
     pages = "\n".join(open(p, encoding="utf-8").read() for p in ["README.md", *(f"docs/{n}" for n in sorted(os.listdir("docs"))) ] if p.endswith(".md") and not p.endswith(("DESIGN-PASS.md",)))
     before = "\n".join(git("show", f"{commit}:{n}") for n in git("ls-tree", "-r", "--name-only", commit, "README.md", "docs").split())
-    words = {w for text in re.findall(r"`([^`\n]+)`", pages + before) for w in re.findall(r"[\w?'≡≢∷-]+", text)}
+    words = set(re.findall(r"[\w?'≡≢∷-]+", pages + before))
     cell = lambda t: "`" + t.replace("|", "\\|").replace("`", "'") + "`" if t else ""
     for kind, title in [("function", "Public functions"), ("type", "Public types and constants"), ("impl", "Impls"), ("definition", "Definitions and theorems in specs/"), ("theorem", "Theorems of proofs/ that README.md or docs/ name")]:
         rows = []

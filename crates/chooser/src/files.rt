@@ -33,7 +33,9 @@ pub fn choose_paths<R: Files + Print + Eprint>(rt: &R, script: &[u8], choices: &
     let mut picks = [0; 4096];
     let mut line = [0; 128];
     let mut page = Page::new(&mut line);
-    if let Some(count) = answer_file(&mut page, &mut open_read(rt, script), &mut picks) {
+    // a statement of its own, at whose end the script's file is closed: the choice file is opened after that
+    let picked = answer_file(&mut page, &mut open_read(rt, script), &mut picks);
+    if let Some(count) = picked {
         if !make_file(rt, choices, &picks[..count]) {
             return;
         }

@@ -3,11 +3,14 @@
 //! the name under which a file is made there is a contract, of what is read a bound, the rest is run and compared.
 #![tactic(auto)]
 
+mod arguments;
+
 ghost use Rattle.std.specs.Prelude.{◌≤◌, length};
 ghost use Rattle.io.specs.Counts.{IsPrefixLen};
 ghost use Rattle.text.specs.Written.{HasRoom, Adds};
 ghost use Rattle.filing.specs.Names.{most_name, most_part_name, part_name};
 
+pub use arguments::Argument;
 use std::env::FillError;
 use std::fs::{OpenFile, OpenOptions};
 use std::io::{Cursor, Read, Write};
@@ -84,29 +87,6 @@ fn put_whole<F: Write + OpenFile>(file: &mut F, bytes: &[u8]) -> io::Result<()> 
     file.sync_all()
 }
 
-// A file of this name with these bytes; where that fails, none.
-fn write_part<R: Files>(rt: &R, part: &str, bytes: &[u8]) -> io::Result<()> {
-    let mut file = OpenOptions::new()
-        .write(true)
-        .create_new(true)
-        .open(rt, part)?;
-    let written = put_whole(&mut file, bytes);
-    drop(file);
-    if written.is_err() {
-        let _ = fs::remove_file(rt, part);
-    }
-    written
-}
-
-// It takes its name; where that fails, it goes again.
-fn take_name<R: Files>(rt: &R, part: &str, name: &str) -> io::Result<()> {
-    let renamed = fs::rename(rt, part, name);
-    if renamed.is_err() {
-        let _ = fs::remove_file(rt, part);
-    }
-    renamed
-}
-
 // The name under which a file is made.
 fn put_part_name(page: &mut Page, name: &[u8])
     requires name_len_bound { length name.now ≤ most_name }
@@ -117,17 +97,33 @@ fn put_part_name(page: &mut Page, name: &[u8])
     page.put_text(b".part");
 }
 
-// The names are text here, as the library asks.
+// What came of it; where it failed, standard error says what and why.
+fn heard<R: Eprint, T>(rt: &R, what: &str, outcome: io::Result<T>) -> Option<T> {
+    match outcome {
+        Ok(value) => Some(value),
+        Err(error) => {
+            fail(rt, what, &error);
+            None
+        }
+    }
+}
+
+// The names are text here, as the library asks. A file that is not written whole or can't take its name goes again, after standard error says so.
 fn make_at<R: Files + Eprint>(rt: &R, part: &str, name: &str, bytes: &[u8]) -> bool {
-    if let Err(error) = write_part(rt, part, bytes) {
-        fail(rt, part, &error);
+    let opened = OpenOptions::new()
+        .write(true)
+        .create_new(true)
+        .open(rt, part);
+    let Some(mut file) = heard(rt, part, opened) else {
         return false;
+    };
+    let written = heard(rt, part, put_whole(&mut file, bytes));
+    drop(file);
+    let made = written.is_some() && heard(rt, name, fs::rename(rt, part, name)).is_some();
+    if !made {
+        let _ = fs::remove_file(rt, part);
     }
-    if let Err(error) = take_name(rt, part, name) {
-        fail(rt, name, &error);
-        return false;
-    }
-    true
+    made
 }
 
 /// A file of this name with these bytes, also with none, in the place of one that is there; whether it could be made. Where it couldn't, standard error
@@ -147,28 +143,12 @@ pub fn make_file<R: Files + Eprint>(rt: &R, name: &[u8], bytes: &[u8]) -> bool
     }
 }
 
-/// An argument of the program, of at most 4,096 bytes.
-#[derive(Drop)]
-pub struct Argument {
-    room: [u8; MOST_NAME],
-    length: usize,
-    ghost within: { length ≤ 4096 },
-}
-
-impl Argument {
-    /// Argument `i` of the program, counted from its own name, which is argument 0. One that is missing or longer has no bytes.
-    pub fn new<R: Env>(rt: &R, i: usize) -> Argument {
-        let mut room = [0; MOST_NAME];
-        let length = rt.arg(i, &mut room).unwrap_or(0);
-        Argument { room, length }
-    }
-
-    /// Its bytes.
-    pub fn bytes(&self) -> &[u8]
-        ensures { length result.now ≤ most_name }
-    {
-        &self.room[..self.length]
-    }
+/// Argument `i` of the program at the start of `buf`: how long it is, 0 where there is none or it is longer than `buf`. Argument 0 is the program's own
+/// name.
+pub fn argument<R: Env>(rt: &R, i: usize, buf: &mut [u8]) -> usize
+    ensures { IsPrefixLen result buf.new }
+{
+    rt.arg(i, buf).unwrap_or(0)
 }
 
 // Whether the program was started with an argument i, however long.
