@@ -25,6 +25,13 @@ fn text_room() -> [u8; MOST_TEXT + 1]
     [0; MOST_TEXT + 1]
 }
 
+// Room for the longest list and one byte more: the one behind it tells that a list is too long.
+fn list_room() -> [u8; MOST_LIST + 1]
+    ensures { 4097 ≡ length result }
+{
+    [0; MOST_LIST + 1]
+}
+
 fn answer_files<F: Read>(
     page: &mut Page,
     text: &mut Option<F>,
@@ -39,7 +46,7 @@ fn answer_files<F: Read>(
 {
     let mut bytes = text_room();
     let n = read_full(text, &mut bytes);
-    let mut rows = [0; MOST_LIST + 1];
+    let mut rows = list_room();
     let m = read_full(list, &mut rows);
     let text = is_read(text, n, MOST_TEXT + 1).then_some(&bytes[..n]);
     let list = is_read(list, m, MOST_LIST + 1).then_some(&rows[..m]);

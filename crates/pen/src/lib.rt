@@ -6,6 +6,7 @@ pub mod kinds;
 mod marks;
 
 ghost use Rattle.std.specs.Prelude.{◌≡◌, [], ◌∷◌, ◌+◌, ◌≤◌, set};
+ghost use Rattle.std.proofs.lemmas.List.Edits.{sets};
 ghost use Rattle.writing.specs.Spell.{decimal_of, made_up, made_up_field};
 ghost use Rattle.pen.specs.declared.Place.TheVariants.{At};
 ghost use Rattle.pen.specs.Draws.{Puts, Gaps, Token, Marks, Turns, end_of};
@@ -37,6 +38,17 @@ fn store(out: &mut [u8], at: usize, byte: u8)
 {
     if at < out.len() {
         out[at] = byte;
+    }
+}
+
+// The same for bytes, one after the other.
+#[tactic(auto, using(crate::proofs::RunLaws::storing))]
+fn store_all(out: &mut [u8], at: usize, bytes: &[u8])
+    ensures { out.new ≡ sets out.old at bytes.now }
+{
+    if at < out.len() {
+        let n = bytes.len().min(out.len() - at);
+        out[at..at + n].copy_from_slice(&bytes[..n]);
     }
 }
 
@@ -88,13 +100,21 @@ impl<'a> Pen<'a> {
         self.place = Place::At(at + 1, last);
     }
 
-    /// Bytes of a token.
-    #[tactic(auto, using(crate::proofs::RunLaws::run_none, crate::proofs::RunLaws::run_more, crate::proofs::RunLaws::run_all))]
+    /// Bytes of a token: all at once, since a pen that moves byte by byte is stored and loaded again at each.
+    #[tactic(auto, using(crate::proofs::RunLaws::runs))]
     pub fn put_bytes(&mut self, bytes: &[u8])
         ensures { Puts bytes.now self.old self.new }
     {
-        for byte in bytes {
-            self.put(*byte);
+        let Place::At(at, last) = self.place else {
+            return;
+        };
+        let room = self.most.saturating_sub(at);
+        if bytes.len() <= room {
+            store_all(self.out, at, bytes);
+            self.place = Place::At(at + bytes.len(), last);
+        } else {
+            store_all(self.out, at, &bytes[..room]);
+            self.place = Place::Over;
         }
     }
 
