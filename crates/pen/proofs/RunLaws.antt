@@ -1,17 +1,17 @@
 -- A run of bytes, all at once: those that are stored, and the pen behind them. Assumes nothing.
 use Prim.Native.Nat.{ℕ, zero, suc, ◌+◌, ◌-◌, ◌≤◌, ◌<◌}
 use Rattle.std.specs.Prelude.{min}
-use mathlib.Core.Path.{◌≡◌, refl, sym, ◌∙◌}
-use mathlib.Core.List.{List, [], ◌∷◌, append_assoc}
+use mathlib.Core.Path.{◌≡◌, refl, sym, ap, ◌∙◌}
+use mathlib.Core.List.{List, [], ◌∷◌, ◌++◌}
 use native.Mathlib.Omega.{arith}
-use lib.ListN.{length, take, drop, set}
+use native.Mathlib.Numerals.{add-one}
+use lib.ListN.{length, get_or, take, set}
 use Rattle.std.proofs.lemmas.List.{set_past, length-set, length-take-le}
-use lib.Seq.{sets, sets-eq, drop-drop}
-use borrow.Rule.Slice.PartMut.{put_mid}
+use lib.Seq.{sets, length-sets, take-suc}
 use Rattle.pen.specs.declared.Pen.{Pen}
 use Rattle.pen.specs.declared.Place.TheVariants.{At, Over}
 use Rattle.pen.specs.Draws.{Keeps, Puts}
-use Rattle.pen.proofs.DrawLaws.{puts_past}
+use Rattle.pen.proofs.DrawLaws.{sets-append, puts_past}
 
 -- bytes that begin past the end fall away
 pub sets-past : (bs d : List ℕ) (at : ℕ) → length d ≤ at → sets d at bs ≡ d
@@ -29,19 +29,31 @@ sets-front (b ∷ bs) d at (suc n) h =
     let l : length (set d at b) ≡ length d = length-set d at b in
     sets-front bs (set d at b) (suc at) n (omega arith)
 
--- those that stand there are copied over the part behind `at`
-copied : (at k : ℕ) (d ys s : List ℕ) → ys ≡ s → k ≡ length s → at + length s ≤ length d → put_mid at k d ys ≡ sets d at s
-copied at k d ys s e l h = rw (e, l, drop-drop (length s) at d) (sym (sets-eq s d at h ∙ append_assoc (take at d) s (drop (at + length s) d)))
+-- those up to the index are stored
+pub record Stored (d bs : List ℕ) (at k : ℕ) (o : List ℕ) : Type 0 where
+  pub is : o ≡ sets d at (take k bs)
 
-pub part-stored : (bs d ys : List ℕ) (at n k : ℕ) → at < length d → n ≡ min (length bs) (length d - at) → ys ≡ take n bs → k ≡ n → put_mid at k d ys ≡ sets d at bs
-part-stored bs d ys at n k h m e l =
-    let j : length (take n bs) ≡ n = length-take-le n bs (omega arith) in
-    copied at k d ys (take n bs) e (l ∙ sym j) (omega arith) ∙ sets-front bs d at n (omega arith)
+pub stored-none : {d bs : List ℕ} {at : ℕ} → Stored d bs at 0 d
+stored-none = record { is = refl }
 
-pub none-stored : (bs d : List ℕ) (at : ℕ) → length d ≤ at → d ≡ sets d at bs
-none-stored bs d at h = sym (sets-past bs d at h)
+one-more : (d bs : List ℕ) (at k : ℕ) → k < length bs → set (sets d at (take k bs)) (at + k) (get_or bs k 0) ≡ sets d at (take (k + 1) bs)
+one-more d bs at k h =
+    let l : length (take k bs) ≡ k = length-take-le k bs (omega arith) in
+    let b : List ℕ = get_or bs k 0 ∷ [] in
+    let e : take k bs ++ b ≡ take (k + 1) bs = rw (add-one k) (sym (take-suc bs k 0 h)) in
+    rw (l, e) at (sets-append (take k bs) b d at)
 
-pub ruleset storing = (none-stored, part-stored)
+module _ {d bs : List ℕ} {at k : ℕ} {o : List ℕ} (s : Stored d bs at k o) where
+  pub stored-room : {n : ℕ} → n ≡ min (length bs) (length d - at) → k < n → at + k < length o
+  stored-room e h = let l : length o ≡ length d = ap length s.is ∙ length-sets d at (take k bs) in omega (arith, e)
+
+  pub stored-more : k < length bs → Stored d bs at (k + 1) (set o (at + k) (get_or bs k 0))
+  stored-more h = record { is = ap (λ (x : List ℕ). set x (at + k) (get_or bs k 0)) s.is ∙ one-more d bs at k h }
+
+  pub stored-all : {n : ℕ} → n ≡ min (length bs) (length d - at) → n ≤ k → o ≡ sets d at bs
+  stored-all e h = s.is ∙ sets-front bs d at k (omega (arith, e))
+
+pub ruleset storing = (stored-none, stored-room, stored-more, stored-all)
 
 -- ---- the pen behind them
 

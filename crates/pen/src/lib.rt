@@ -41,14 +41,14 @@ fn store(out: &mut [u8], at: usize, byte: u8)
     }
 }
 
-// The same for bytes, one after the other.
+// The same for bytes, as many as stand there. Not by copy_from_slice: that calls a function that the library for C asks of nobody else.
 #[tactic(auto, using(crate::proofs::RunLaws::storing))]
 fn store_all(out: &mut [u8], at: usize, bytes: &[u8])
     ensures { out.new ≡ sets out.old at bytes.now }
 {
-    if at < out.len() {
-        let n = bytes.len().min(out.len() - at);
-        out[at..at + n].copy_from_slice(&bytes[..n]);
+    let count = bytes.len().min(out.len().saturating_sub(at));
+    for k in 0..count {
+        out[at + k] = bytes[k];
     }
 }
 

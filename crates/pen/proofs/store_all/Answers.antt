@@ -1,7 +1,10 @@
--- `pen::store_all` meets its contract: as many bytes are copied as stand there. Assumes nothing.
-use Rattle.std.proofs.Common.{arith}
-use Rattle.pen.proofs.RunLaws.{part-stored}
+-- `pen::store_all` meets its contract: the bytes that stand there are stored. Assumes nothing.
+use Rattle.std.proofs.Common.{◌∙◌, arith}
+use Rattle.pen.proofs.RunLaws.{sets-front}
 use Rattle.pen.proofs.store_all.Goals as goal
 
-pub returns-then-at-out : goal.returns-then-at-out
-returns-then-at-out c = part-stored c.args.bytes.now c.args.out.now _ c.args.at c.min-n.result _ c.if-at-out.true c.min-n.ensures c.copy_from_slice.ensures.after (omega arith)
+pub returns : goal.returns
+returns c =
+    c.loop-k.invariant.is
+    ∙ sets-front c.args.bytes.now c.args.out.now c.args.at c.loop-k.k
+    (omega (arith, c.min-count.ensures, c.saturating_sub.ensures, c.loop-k-test.false))
